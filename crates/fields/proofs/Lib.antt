@@ -1,0 +1,10 @@
+-- What is proved of one field, beside the functions' own proofs.
+-- Assumes nothing.
+pub mod Lists
+pub mod Passing
+pub mod Digits
+pub mod Framing
+pub mod Writing
+pub mod Packing
+pub mod RoundTrip
+pub mod OneResult

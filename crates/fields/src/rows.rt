@@ -1,0 +1,107 @@
+// The table of tags: what each tag's value holds, and how long it is.
+ghost use mathlib.Core.Path.{_≡_};
+ghost use Rattle.fields.specs.Rows.{isPresent, isTag, lengthOf, rowOf, widthIf};
+use Slot::Absent;
+use Slot::Data;
+use Slot::Pointer;
+use Slot::Selector;
+
+// What a one-byte number of a row names: nothing, a pointer variable, a data variable, a selector.
+pub enum Slot {
+    Absent,
+    Pointer,
+    Data,
+    Selector,
+}
+
+// After the thread: up to three one-byte numbers, a cell where there is one, a number where there is one.
+pub struct Row(pub Slot, pub Slot, pub Slot, pub bool, pub bool);
+
+const CELL: bool = true;
+
+const NUMBER: bool = true;
+
+const NONE: bool = false;
+
+impl Row {
+    // The tags are 1 to 13. Tag 0 is none, and has a row so that the table is indexed by tag.
+    pub const TAGS: usize = 14;
+
+    const EMPTY: Row = Row(Absent, Absent, Absent, NONE, NONE);
+
+    const ALL: [Row; Row::TAGS] = [
+        Row::EMPTY,
+        Row(Pointer, Absent, Absent, CELL, NUMBER), // 1: p := malloc
+        Row(Pointer, Absent, Absent, NONE, NONE), // 2: p := free
+        Row(Pointer, Pointer, Absent, NONE, NONE), // 3: p := q
+        Row(Pointer, Pointer, Selector, NONE, NONE), // 4: p := q.sel
+        Row(Pointer, Selector, Pointer, NONE, NONE), // 5: p.sel := q
+        Row(Data, Pointer, Absent, NONE, NONE), // 6: x := p.data
+        Row(Pointer, Data, Absent, NONE, NONE), // 7: p.data := x
+        Row(Data, Absent, Absent, NONE, NUMBER), // 8: x := constant
+        Row(Pointer, Pointer, Absent, NONE, NONE), // 9: assert p = q
+        Row(Pointer, Pointer, Absent, NONE, NONE), // 10: assert p ≠ q
+        Row(Data, Data, Absent, NONE, NONE), // 11: assert x = y
+        Row(Data, Data, Absent, NONE, NONE), // 12: assert x ≠ y
+        Row(Data, Data, Data, NONE, NONE), // 13: x := y + z
+    ];
+
+    // The value length of each tag, the thread's byte included.
+    const LENGTHS: [u8; Row::TAGS] = [1, 8, 2, 3, 4, 4, 3, 3, 6, 3, 3, 3, 3, 4];
+}
+
+pub fn is_tag(tag: u8) -> bool
+    ensures { λ r. ⌜ r ≡ isTag tag ⌝ }
+{
+    if tag == 0 {
+        return false;
+    }
+    (tag as usize) < Row::TAGS
+}
+
+pub fn row_of(tag: u8) -> Row
+    ensures { λ r. ⌜ r ≡ rowOf tag ⌝ }
+{
+    let at = tag as usize;
+    if at < Row::TAGS {
+        return Row::ALL[at];
+    }
+    Row::EMPTY
+}
+
+// How many bytes follow the header of a field with this tag.
+pub fn value_length(tag: u8) -> u8
+    ensures { λ r. ⌜ r ≡ lengthOf tag ⌝ }
+{
+    let at = tag as usize;
+    if at < Row::TAGS {
+        return Row::LENGTHS[at];
+    }
+    Row::LENGTHS[0]
+}
+
+pub fn is_present(slot: Slot) -> bool
+    ensures { λ r. ⌜ r ≡ isPresent slot ⌝ }
+{
+    match slot {
+        Absent => false,
+        Pointer => true,
+        Data => true,
+        Selector => true,
+    }
+}
+
+pub fn slot_width(slot: Slot) -> usize
+    ensures { λ r. ⌜ r ≡ widthIf (isPresent slot) 1 ⌝ }
+{
+    width_if(is_present(slot), 1)
+}
+
+pub fn width_if(there: bool, width: usize) -> usize
+    ensures { λ r. ⌜ r ≡ widthIf there width ⌝ }
+{
+    if there {
+        return width;
+    }
+    0
+}
