@@ -1,0 +1,3 @@
+-- What other crates' proofs take from the rules.
+-- Assumes nothing.
+pub mod Tallies

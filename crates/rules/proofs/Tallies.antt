@@ -1,0 +1,47 @@
+-- What a command does to the tally: one field more, and at most one malloc more.
+-- Assumes nothing.
+use Prim.Native.Nat.{ℕ, _+_, _≤_}
+use mathlib.Core.Bool.{Bool, true, false, cond}
+use mathlib.Core.Path.{_≡_, refl}
+use native.Mathlib.Omega.{arith}
+use Rattle.rules.specs.declared.Change.{Change}
+use Rattle.rules.specs.declared.Change.the-variants.{Stay, Allocate, Release, Move, Put}
+use Rattle.rules.specs.declared.Act.{Act}
+use Rattle.rules.specs.State.{State, pointer, store, write}
+use Rattle.rules.specs.Words.{cellOf, isUnset}
+use Rattle.rules.specs.Effect.{apply, countField, effect, free, give}
+
+fields-cond : (b : Bool) (s t : State) (k : ℕ) → s .fields ≡ k → t .fields ≡ k → cond b s t .fields ≡ k
+fields-cond true s t k x y = x
+fields-cond false s t k x y = y
+
+mallocs-cond : (b : Bool) (s t : State) (k : ℕ) → s .mallocs ≤ k → t .mallocs ≤ k → cond b s t .mallocs ≤ k
+mallocs-cond true s t k x y = x
+mallocs-cond false s t k x y = y
+
+apply-fields : (c : Change) (s : State) → apply c s .fields ≡ s .fields
+unfolding give write store free
+apply-fields Stay s = refl
+apply-fields (Allocate p c d) s = refl
+apply-fields (Release p) s = fields-cond (isUnset (pointer s p)) s (free (cellOf (pointer s p)) s) (s .fields) refl refl
+apply-fields (Move x y) s = refl
+apply-fields (Put x v) s = refl
+
+pub fields-kept : (c : Change) (s t : State) → t ≡ apply c s → t .fields ≡ s .fields
+fields-kept c s t e = rw e (apply-fields c s)
+
+apply-mallocs : (c : Change) (s : State) → apply c s .mallocs ≤ s .mallocs + 1
+unfolding give write store free
+apply-mallocs Stay s = omega arith
+apply-mallocs (Allocate p c d) s = omega arith
+apply-mallocs (Release p) s = mallocs-cond (isUnset (pointer s p)) s (free (cellOf (pointer s p)) s) (s .mallocs + 1) (omega arith) (omega arith)
+apply-mallocs (Move x y) s = omega arith
+apply-mallocs (Put x v) s = omega arith
+
+pub record Counted (s t : State) : Type 0 where
+  pub fields : t .fields ≡ s .fields + 1
+  pub mallocs : t .mallocs ≤ s .mallocs + 1
+
+pub counted : (a : Act) (s : State) → Counted s (effect a s)
+unfolding countField
+counted a s = record { fields = rw (apply-fields (a .change) s); mallocs = apply-mallocs (a .change) s }

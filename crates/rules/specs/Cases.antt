@@ -1,0 +1,139 @@
+-- The starred log cases of document 01: one table, and one statement over it.
+-- Assumes nothing.
+use Prim.Native.Nat.{ℕ}
+use mathlib.Core.Path.{_≡_, refl}
+use mathlib.Core.Bool.{Bool, true, false, _&&_}
+use mathlib.Core.List.{List, [], _∷_, _++_}
+use lib.Dec.{eqb, T}
+use Rattle.fields.specs.declared.Field.{Field}
+use Rattle.fields.specs.Limits.{logFields}
+use Rattle.fields.specs.Rows.{rowOf, isTag, widthsOf, lengthOf}
+use Rattle.fields.specs.Numbers.{fieldWith}
+use Rattle.fields.specs.Checks.{mayName}
+use Rattle.fields.specs.Read.{fieldOf, readField}
+use Rattle.rules.specs.declared.Place.{Place}
+use Rattle.rules.specs.declared.Place.the-variants.{PointerWord}
+use Rattle.rules.specs.declared.DataPlace.{DataPlace}
+use Rattle.rules.specs.declared.DataPlace.the-variants.{VariableNumber}
+use Rattle.rules.specs.Words.{isValid, cellOf, isUnset, invalidated, afterFree}
+use Rattle.rules.specs.State.{State, fresh, word, write, datum, store}
+use Rattle.rules.specs.Commands.{commandOf}
+use Rattle.rules.specs.Check.{sameAsWanted, checkBy}
+use Rattle.rules.specs.Effect.{give, free, countField}
+use Rattle.rules.specs.Run.{run}
+use Rattle.rules.specs.Log.{runBytes}
+use Rattle.rules.specs.Verdicts.{accepted, race, refused, Line, line, lineOf}
+
+-- what a case tells besides its verdict: a word or a number of the state that is left
+pub data Fact : Type 0 where
+  wordIs : Place → ℕ → Fact
+  datumIs : DataPlace → ℕ → Fact
+
+pub record Case : Type 0 where
+  pub log : List Field
+  pub verdict : Line
+  pub facts : List Fact
+
+abbrev pub case : List Field → List ℕ → List ℕ → List Fact → Case
+case log word numbers facts = record { log = log; verdict = line word numbers; facts = facts }
+
+abbrev pub alike : List ℕ → List ℕ → Bool
+alike [] [] = true
+alike [] (y ∷ ys) = false
+alike (x ∷ xs) [] = false
+alike (x ∷ xs) (y ∷ ys) = eqb x y && alike xs ys
+
+abbrev pub sameLine : Line → Line → Bool
+sameLine l m = alike (l .word) (m .word) && alike (l .numbers) (m .numbers)
+
+abbrev pub factHolds : State → Fact → Bool
+factHolds s (wordIs x w) = eqb (word s x) w
+factHolds s (datumIs x n) = eqb (datum s x) n
+
+abbrev pub factsHold : State → List Fact → Bool
+factsHold s [] = true
+factsHold s (fact ∷ facts) = factHolds s fact && factsHold s facts
+
+abbrev pub right : List Case → Bool
+right [] = true
+right (c ∷ cs) =
+    let outcome = run (c .log) fresh in
+    sameLine (lineOf (outcome .verdict)) (c .verdict) && factsHold (outcome .state) (c .facts) && right cs
+
+-- ---- fields: a tag, and its numbers in the order thread, first, second, third, cell, number; those left out are 0
+abbrev pub M : ℕ → ℕ → ℕ → Field
+M p a d = fieldWith 1 (0 ∷ p ∷ 0 ∷ 0 ∷ a ∷ d ∷ [])
+
+abbrev pub freeOf : ℕ → Field
+freeOf p = fieldWith 2 (0 ∷ p ∷ [])
+
+-- C and D up to the free, and the field that ends both
+abbrev pub handedOn : List Field
+handedOn = M 0 5 7 ∷ fieldWith 3 (1 ∷ 24 ∷ 0 ∷ []) ∷ freeOf 0 ∷ []
+
+abbrev pub lateRead : Field
+lateRead = fieldWith 6 (1 ∷ 24 ∷ 24 ∷ [])
+
+abbrev pub logE : List Field
+logE = M 0 5 0 ∷ M 1 6 0 ∷ fieldWith 5 (0 ∷ 0 ∷ 0 ∷ 1 ∷ []) ∷ freeOf 0 ∷ M 0 5 0 ∷ fieldWith 4 (0 ∷ 16 ∷ 0 ∷ 0 ∷ []) ∷ []
+
+abbrev pub logP : List Field
+logP =
+    fieldWith 8 (0 ∷ 0 ∷ 0 ∷ 0 ∷ 0 ∷ 4294967295 ∷ [])
+    ∷ fieldWith 8 (0 ∷ 1 ∷ 0 ∷ 0 ∷ 0 ∷ 1 ∷ [])
+    ∷ fieldWith 13 (0 ∷ 2 ∷ 0 ∷ 1 ∷ [])
+    ∷ fieldWith 11 (0 ∷ 2 ∷ 3 ∷ [])
+    ∷ []
+
+abbrev pub cases : List Case
+cases =
+    -- A: empty
+    case [] accepted (0 ∷ 0 ∷ 0 ∷ []) []
+    -- B: M(0,5,7); free p0
+    ∷ case (M 0 5 7 ∷ freeOf 0 ∷ []) accepted (2 ∷ 1 ∷ 0 ∷ []) []
+    -- C: M(0,5,7); thread 1: p24 := p0; thread 0: free p0; thread 1: x24 := p24.data
+    ∷ case (handedOn ++ (lateRead ∷ [])) race (3 ∷ 1 ∷ 24 ∷ []) []
+    -- D: as C, with M(1,5,7) before the last
+    ∷ case (handedOn ++ (M 1 5 7 ∷ lateRead ∷ [])) race (4 ∷ 1 ∷ 24 ∷ []) []
+    -- E: M(0,5,0); M(1,6,0); p0.0 := p1; free p0; M(0,5,0); p16 := p0.0
+    ∷ case logE accepted (6 ∷ 3 ∷ 2 ∷ []) (wordIs (PointerWord 16) 2054 ∷ [])
+    -- F: E, then thread 0 asserts p16 = p1
+    ∷ case (logE ++ (fieldWith 9 (0 ∷ 16 ∷ 1 ∷ []) ∷ [])) race (6 ∷ 0 ∷ 16 ∷ []) []
+    -- G: M(0,5,0) twice
+    ∷ case (M 0 5 0 ∷ M 0 5 0 ∷ []) refused (13 ∷ 1 ∷ []) []
+    -- H: x0 := p0.data
+    ∷ case (fieldWith 6 (0 ∷ 0 ∷ 0 ∷ []) ∷ []) refused (12 ∷ 0 ∷ []) []
+    -- I: free p0
+    ∷ case (freeOf 0 ∷ []) accepted (1 ∷ 0 ∷ 0 ∷ []) []
+    -- J: assert p0 ≠ p0
+    ∷ case (fieldWith 10 (0 ∷ 0 ∷ 0 ∷ []) ∷ []) accepted (1 ∷ 0 ∷ 0 ∷ []) []
+    -- K: M(0,5,0); assert p0 ≠ p0
+    ∷ case (M 0 5 0 ∷ fieldWith 10 (0 ∷ 0 ∷ 0 ∷ []) ∷ []) refused (14 ∷ 1 ∷ []) []
+    -- L: M(0,5,7); free p0; M(0,5,9); x0 := p0.data
+    ∷ case (M 0 5 7 ∷ freeOf 0 ∷ M 0 5 9 ∷ fieldWith 6 (0 ∷ 0 ∷ 0 ∷ []) ∷ []) accepted (4 ∷ 2 ∷ 1 ∷ []) (datumIs (VariableNumber 0) 7 ∷ [])
+    -- O: M(0,5,0); free p0; M(0,5,0); thread 0: p16 := p0.0; free p16, which leaves the word that it met
+    ∷ case (M 0 5 0 ∷ freeOf 0 ∷ M 0 5 0 ∷ fieldWith 4 (0 ∷ 16 ∷ 0 ∷ 0 ∷ []) ∷ freeOf 16 ∷ []) race (4 ∷ 0 ∷ 16 ∷ []) (wordIs (PointerWord 16) 3072 ∷ [])
+    -- P: x0 := 4294967295; x1 := 1; x2 := x0 + x1; assert x2 = x3
+    ∷ case logP accepted (4 ∷ 0 ∷ 0 ∷ []) []
+    ∷ []
+
+pub cases-hold : T (right cases)
+unfolding isValid cellOf isUnset invalidated afterFree fresh write store commandOf sameAsWanted checkBy give free countField
+cases-hold = tt
+
+-- C as the 28 bytes that document 01 gives
+abbrev pub bytesC : List ℕ
+bytesC =
+    -- M(0,5,7)
+    1 ∷ 8 ∷ 0 ∷ 0 ∷ 0 ∷ 5 ∷ 0 ∷ 7 ∷ 0 ∷ 0 ∷ 0
+    -- thread 1: p24 := p0
+    ∷ 3 ∷ 3 ∷ 0 ∷ 1 ∷ 24 ∷ 0
+    -- thread 0: free p0
+    ∷ 2 ∷ 2 ∷ 0 ∷ 0 ∷ 0
+    -- thread 1: x24 := p24.data
+    ∷ 6 ∷ 3 ∷ 0 ∷ 1 ∷ 24 ∷ 24
+    ∷ []
+
+pub bytesC-race : lineOf (runBytes logFields bytesC fresh .verdict) ≡ line race (3 ∷ 1 ∷ 24 ∷ [])
+unfolding rowOf isTag widthsOf lengthOf mayName fieldOf readField isValid cellOf isUnset invalidated afterFree fresh write store commandOf sameAsWanted checkBy give free countField
+bytesC-race = refl

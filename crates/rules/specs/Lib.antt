@@ -1,0 +1,13 @@
+-- The rules by which a log is judged, each file resting on those before it.
+-- Assumes nothing.
+pub mod Words
+pub mod State
+pub mod Acts
+pub mod Commands
+pub mod Check
+pub mod Effect
+pub mod Run
+pub mod Log
+pub mod Verdicts
+pub mod Cases
+pub mod Judging

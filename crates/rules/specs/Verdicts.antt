@@ -1,0 +1,29 @@
+-- What document 01 gives for every verdict: its word, as the program prints it, and its numbers.
+-- Assumes nothing.
+use Prim.Native.Nat.{ℕ}
+use mathlib.Core.List.{List, [], _∷_}
+use Rattle.fields.specs.Refusals.{numberOf}
+use Rattle.rules.specs.declared.Verdict.{Verdict}
+use Rattle.rules.specs.declared.Verdict.the-variants.{Accepted, Raced, Refused}
+
+-- ---- the words, in ASCII
+abbrev pub accepted : List ℕ
+accepted = 97 ∷ 99 ∷ 99 ∷ 101 ∷ 112 ∷ 116 ∷ 101 ∷ 100 ∷ []
+
+abbrev pub race : List ℕ
+race = 114 ∷ 97 ∷ 99 ∷ 101 ∷ []
+
+abbrev pub refused : List ℕ
+refused = 114 ∷ 101 ∷ 102 ∷ 117 ∷ 115 ∷ 101 ∷ 100 ∷ []
+
+pub record Line : Type 0 where
+  pub word : List ℕ
+  pub numbers : List ℕ
+
+abbrev pub line : List ℕ → List ℕ → Line
+line word numbers = record { word = word; numbers = numbers }
+
+abbrev pub lineOf : Verdict → Line
+lineOf (Accepted fields mallocs live) = line accepted (fields ∷ mallocs ∷ live ∷ [])
+lineOf (Raced field thread variable) = line race (field ∷ thread ∷ variable ∷ [])
+lineOf (Refused r field) = line refused (numberOf r ∷ field ∷ [])
