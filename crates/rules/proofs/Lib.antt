@@ -1,3 +1,4 @@
 -- What other crates' proofs take from the rules.
 -- Assumes nothing.
 pub mod Tallies
+pub mod Printing

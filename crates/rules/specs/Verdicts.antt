@@ -1,8 +1,10 @@
 -- What document 01 gives for every verdict: its word, as the program prints it, and its numbers.
 -- Assumes nothing.
 use Prim.Native.Nat.{ℕ}
-use mathlib.Core.List.{List, [], _∷_}
+use mathlib.Core.List.{List, [], _∷_, _++_}
+use lib.ListN.{length, replicate, take}
 use Rattle.fields.specs.Refusals.{numberOf}
+use Rattle.rules.specs.declared.Printed.{Printed}
 use Rattle.rules.specs.declared.Verdict.{Verdict}
 use Rattle.rules.specs.declared.Verdict.the-variants.{Accepted, Raced, Refused}
 
@@ -27,3 +29,13 @@ abbrev pub lineOf : Verdict → Line
 lineOf (Accepted fields mallocs live) = line accepted (fields ∷ mallocs ∷ live ∷ [])
 lineOf (Raced field thread variable) = line race (field ∷ thread ∷ variable ∷ [])
 lineOf (Refused r field) = line refused (numberOf r ∷ field ∷ [])
+
+-- ---- the line in arrays, as code holds it: each list at the front, and 0 after it
+abbrev pub padded : ℕ → List ℕ → List ℕ
+padded size l = take size (l ++ replicate size 0)
+
+abbrev pub arrays : Line → Printed
+arrays l = record { word = padded 8 (l .word); letters = length (l .word); numbers = padded 3 (l .numbers); count = length (l .numbers) }
+
+abbrev pub printedOf : Verdict → Printed
+printedOf verdict = arrays (lineOf verdict)

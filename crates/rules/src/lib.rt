@@ -3,6 +3,7 @@
 
 ghost use mathlib.Core.Path.{_≡_};
 ghost use Rattle.rules.specs.State.{freshBoard, freshHeap, freshTally};
+ghost use Rattle.rules.specs.Verdicts.{printedOf};
 use fields::Field;
 use fields::RecordedCell;
 use fields::Refusal;
@@ -145,4 +146,45 @@ pub enum Verdict {
     Accepted(u32, u32, u32),
     Raced(u32, u8, u8),
     Refused(Refusal, u32),
+}
+
+// A verdict as it is printed: a word and its numbers, of which the first so many count; the rest of each is 0.
+pub struct Printed {
+    pub word: [u8; Printed::LETTERS],
+    pub letters: usize,
+    pub numbers: [u32; Printed::NUMBERS],
+    pub count: usize,
+}
+
+impl Printed {
+    pub const LETTERS: usize = 8;
+
+    pub const NUMBERS: usize = 3;
+}
+
+impl Verdict {
+    pub fn printed(self) -> Printed
+        ensures { λ r. ⌜ r ≡ printedOf self ⌝ }
+    {
+        match self {
+            Verdict::Accepted(fields, mallocs, live) => Printed {
+                word: *b"accepted",
+                letters: 8,
+                numbers: [fields, mallocs, live],
+                count: 3,
+            },
+            Verdict::Raced(field, thread, variable) => Printed {
+                word: *b"race\0\0\0\0",
+                letters: 4,
+                numbers: [field, thread as u32, variable as u32],
+                count: 3,
+            },
+            Verdict::Refused(why, field) => Printed {
+                word: *b"refused\0",
+                letters: 7,
+                numbers: [why.number() as u32, field, 0],
+                count: 2,
+            },
+        }
+    }
 }
