@@ -1,4 +1,4 @@
 -- The laws that the proofs of this crate share.
 -- Assumes nothing.
 pub mod Front
-pub mod Count
+pub mod Along

@@ -1,8 +1,8 @@
 // Lists of words, of numbers and of status bytes: one place of them read or stored, all of them filled, a board's copied in.
 ghost use mathlib.Core.Path.{_≡_};
 ghost use lib.ListN.{getD, length, replicate, set};
-ghost use lib.Seq.{sets};
-ghost use Rattle.rules.specs.State.{neverUsed, numberAt};
+ghost use Rattle.heap.specs.Boards.{withFront};
+ghost use Rattle.rules.specs.State.{boardPointers, boardVariables, neverUsed, numberAt};
 ghost use Rattle.rules.specs.Words.{wordAt};
 use rules::Board;
 use rules::Heap;
@@ -88,23 +88,30 @@ pub fn fill_status(status: &mut [u8], new: u8)
     }
 }
 
-// A board's pointers over the front of a list. What lies past them stays.
+// A board's pointers over the front of a list that has room for them. What lies past them stays.
 pub fn copy_words(words: &mut [u16], from: [u16; Board::POINTERS])
-    ensures { λ _. ⌜ now (words .exit) ≡ sets (now (words .entry)) 0 from ⌝ }
+    ensures { λ _. ⌜ now (words .exit) ≡ withFront boardPointers from (now (words .entry)) ⌝ }
 {
+    if words.len() < Board::POINTERS {
+        return;
+    }
     let mut i: usize = 0;
     while i < Board::POINTERS {
-        set_word(words, i, from[i]);
+        words[i] = from[i];
         i += 1;
     }
 }
 
+// The same of a board's data variables.
 pub fn copy_numbers(numbers: &mut [u32], from: [u32; Board::VARIABLES])
-    ensures { λ _. ⌜ now (numbers .exit) ≡ sets (now (numbers .entry)) 0 from ⌝ }
+    ensures { λ _. ⌜ now (numbers .exit) ≡ withFront boardVariables from (now (numbers .entry)) ⌝ }
 {
+    if numbers.len() < Board::VARIABLES {
+        return;
+    }
     let mut i: usize = 0;
     while i < Board::VARIABLES {
-        set_number(numbers, i, from[i]);
+        numbers[i] = from[i];
         i += 1;
     }
 }

@@ -1,15 +1,19 @@
--- What a command does to the tally: one field more, and at most one malloc more.
+-- What a command does to the tally: one field more, and at most one malloc more. And how many cells can be live.
 -- Assumes nothing.
 use Prim.Native.Nat.{ℕ, _+_, _≤_}
 use mathlib.Core.Bool.{Bool, true, false, cond}
+use lib.Dec.{eqb}
+use lib.ListN.{length}
+use mathlib.Core.List.{List, [], _∷_}
 use mathlib.Core.Path.{_≡_, refl}
 use native.Mathlib.Omega.{arith}
 use Rattle.rules.specs.declared.Change.{Change}
 use Rattle.rules.specs.declared.Change.the-variants.{Stay, Allocate, Release, Move, Put}
 use Rattle.rules.specs.declared.Act.{Act}
-use Rattle.rules.specs.State.{State, pointer, store, write}
+use Rattle.rules.specs.State.{State, live, pointer, store, write}
 use Rattle.rules.specs.Words.{cellOf, isUnset}
 use Rattle.rules.specs.Effect.{apply, countField, effect, free, give}
+use Rattle.rules.specs.Run.{liveCount}
 
 fields-cond : (b : Bool) (s t : State) (k : ℕ) → s .fields ≡ k → t .fields ≡ k → cond b s t .fields ≡ k
 fields-cond true s t k x y = x
@@ -45,3 +49,11 @@ pub record Counted (s t : State) : Type 0 where
 pub counted : (a : Act) (s : State) → Counted s (effect a s)
 unfolding countField
 counted a s = record { fields = rw (apply-fields (a .change) s); mallocs = apply-mallocs (a .change) s }
+
+one-at-most : (b : Bool) → cond b 1 0 ≤ 1
+one-at-most true = omega arith
+one-at-most false = omega arith
+
+pub live-at-most : (status : List ℕ) → liveCount status ≤ length status
+live-at-most [] = omega arith
+live-at-most (x ∷ xs) = omega (arith, one-at-most (eqb x live), live-at-most xs)

@@ -1,6 +1,6 @@
 -- `heap::cells::live_count` meets its contract. The invariant: what is counted and what is left to count are the whole.
 use Prim.Native.Nat.{_+_, _-_, _≤_}
-use Rattle.heap.proofs.Count.{live-end, live-here, live-not}
+use Rattle.heap.proofs.Along.{live-end, live-here, live-not}
 use Rattle.rules.specs.Run.{liveCount}
 use borrow.Author.Needs.{needs}
 use lib.ListN.{drop, length}

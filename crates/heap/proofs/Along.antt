@@ -1,13 +1,15 @@
 -- Loops that go along a list: the live statuses from a place on, and the stores of a copy from a place on.
 -- Assumes nothing.
 use Prim.Native.Nat.{ℕ, _+_, _≤_, _<_}
-use borrow.Author.Tests.{eq-eqb, ne-eqb}
+use borrow.Author.Tests.{eq-eqb, le-leb, ne-eqb}
 use lib.ListN.{drop, drop-of-length-le, getD, length, set}
-use lib.Seq.{drop-cons, sets}
-use mathlib.Core.List.{List}
-use mathlib.Core.Path.{_≡_, refl}
+use lib.Seq.{drop-cons, sets, sets-eq}
+use mathlib.Core.List.{List, []}
+use mathlib.Core.Path.{_≡_, _∙_}
+use native.Mathlib.Nat.{zero-add}
 use native.Mathlib.Numerals.{add-one}
 use native.Mathlib.Omega.{arith}
+use Rattle.heap.specs.Boards.{withFront}
 use Rattle.rules.specs.Run.{liveCount}
 use Rattle.rules.specs.State.{live}
 
@@ -23,5 +25,7 @@ live-end l i h = rw (drop-of-length-le l {i = i} h)
 pub copy-step : (d from : List ℕ) (i : ℕ) → i < length from → sets (set d i (getD from i 0)) (i + 1) (drop (i + 1) from) ≡ sets d i (drop i from)
 copy-step d from i h = rw (add-one, drop-cons from i 0)
 
-pub copy-end : (d from : List ℕ) (i : ℕ) → length from ≤ i → sets d i (drop i from) ≡ d
-copy-end d from i h = rw (drop-of-length-le from {i = i} h)
+pub copy-end : (n i : ℕ) (from d d′ : List ℕ) → length from ≡ n → n ≤ length d → n ≤ i → sets d′ i (drop i from) ≡ sets d 0 from → d′ ≡ withFront n from d
+copy-end n i from d d′ h fits past e =
+    let all : drop i from ≡ [] = drop-of-length-le from {i = i} (omega arith) in
+    rw (le-leb n (length d) fits) ((rw all at e) ∙ (rw (sets-eq from d 0 (omega arith), zero-add, h)))

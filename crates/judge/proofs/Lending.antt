@@ -1,0 +1,74 @@
+-- What is lent: its sizes, the fresh state that the fills make, and what the buffers hold in the end.
+-- Assumes nothing.
+use Prim.Native.Nat.{ℕ}
+use borrow.Author.Tests.{le-leb, leb-true}
+use lib.Dec.{leb}
+use lib.ListN.{drop, length, replicate}
+use mathlib.Core.Bool.{Bool, true, false, _&&_}
+use mathlib.Core.List.{List, _++_}
+use mathlib.Core.Path.{_≡_, ap, refl}
+use native.Mathlib.Omega.{arith}
+use Rattle.fields.specs.declared.Refusal.the-variants.{BufferTooShort, LogTooLong}
+use Rattle.fields.specs.Limits.{cells, logBytes, logFields}
+use Rattle.heap.specs.Boards.{withFront}
+use Rattle.rules.specs.declared.Board.{Board}
+use Rattle.rules.specs.declared.Tally.{Tally}
+use Rattle.rules.specs.declared.Verdict.{Verdict}
+use Rattle.rules.specs.declared.Verdict.the-variants.{Refused}
+use Rattle.rules.specs.Judging.{Lent, judgeLog, judged, lent, longEnough, showing}
+use Rattle.rules.specs.Log.{runBytes}
+use Rattle.rules.specs.Run.{Outcome}
+use Rattle.rules.specs.State.{boardPointers, boardVariables, fresh, freshBoard, freshTally, heapSelectors, neverUsed, stateOf}
+use Rattle.rules.specs.Words.{unset}
+use Rattle.judge.specs.Judges.{LongEnough, shown}
+
+-- ---- the sizes
+pub all-but-last : (a b c d e : Bool) → a ≡ true → b ≡ true → c ≡ true → d ≡ true → e ≡ (a && b && c && d && e)
+all-but-last a b c d e p q r s = rw (p, q, r, s)
+
+all-five : (a b c d e : Bool) → (a && b && c && d && e) ≡ true → (a ≡ true) × ((b ≡ true) × ((c ≡ true) × ((d ≡ true) × (e ≡ true))))
+all-five true true true true e h = (refl, (refl, (refl, (refl, h))))
+all-five true true true false e h = absurd (let z : _≡_ {A = ℕ} 0 1 = cc in omega arith)
+all-five true true false d e h = absurd (let z : _≡_ {A = ℕ} 0 1 = cc in omega arith)
+all-five true false c d e h = absurd (let z : _≡_ {A = ℕ} 0 1 = cc in omega arith)
+all-five false b c d e h = absurd (let z : _≡_ {A = ℕ} 0 1 = cc in omega arith)
+
+pub long-enough : (p s v n t : List ℕ) (tally : Tally) → longEnough (lent p s v n t tally) ≡ true → LongEnough p s v n t
+unfolding longEnough
+long-enough p s v n t tally h =
+    let all = all-five (leb boardPointers (length p)) (leb heapSelectors (length s)) (leb boardVariables (length v)) (leb cells (length n)) (leb cells (length t)) h in
+    record {
+      pointers-fit = leb-true boardPointers (length p) (all .0);
+      selectors-fit = leb-true heapSelectors (length s) (all .1 .0);
+      variables-fit = leb-true boardVariables (length v) (all .1 .1 .0);
+      numbers-fit = leb-true cells (length n) (all .1 .1 .1 .0);
+      status-fit = leb-true cells (length t) (all .1 .1 .1 .1);
+    }
+
+-- ---- the state that the fills make
+pub filled : (s n t : List ℕ) (i j k : ℕ) → s ≡ replicate i unset → i ≡ heapSelectors → n ≡ replicate j 0 → j ≡ cells → t ≡ replicate k neverUsed → k ≡ cells → stateOf freshBoard freshTally s n t ≡ fresh
+unfolding fresh
+filled s n t i j k e₁ h₁ e₂ h₂ e₃ h₃ = rw (e₁, h₁, e₂, h₂, e₃, h₃)
+
+-- ---- what is lent, once the run has ended and the board is copied out
+pub run-shown : (log p s v n t : List ℕ) (tally : Tally) → LongEnough p s v n t → (verdict : Verdict) (board : Board) (tally′ : Tally) (p′ s′ v′ n′ t′ : List ℕ)
+    → _≡_ {A = Outcome} (record { verdict = verdict; state = stateOf board tally′ s′ n′ t′ }) (runBytes logFields log fresh)
+    → p′ ≡ withFront boardPointers (board .pointers) p → v′ ≡ withFront boardVariables (board .variables) v
+    → judged verdict (lent p′ (s′ ++ drop heapSelectors s) v′ (n′ ++ drop cells n) (t′ ++ drop cells t) tally′) ≡ shown log (lent p s v n t tally)
+unfolding shown
+run-shown log p s v n t tally fit verdict board tally′ p′ s′ v′ n′ t′ ran e f =
+    rw (e, f, le-leb boardPointers (length p) (fit .pointers-fit), le-leb boardVariables (length v) (fit .variables-fit))
+    (ap (λ (o : Outcome). judged (o .verdict) (showing (o .state) (lent p s v n t tally))) ran)
+
+-- ---- the verdicts
+pub judged-too-long : (log : List ℕ) (l : Lent) → leb (length log) logBytes ≡ false → judged (Refused LogTooLong 0) l ≡ judgeLog log l
+unfolding judgeLog
+judged-too-long log l h = rw h
+
+pub judged-too-short : (log : List ℕ) (l : Lent) → leb (length log) logBytes ≡ true → longEnough l ≡ false → judged (Refused BufferTooShort 0) l ≡ judgeLog log l
+unfolding judgeLog
+judged-too-short log l h e = rw (h, e)
+
+pub judged-shown : (log : List ℕ) (l : Lent) → leb (length log) logBytes ≡ true → longEnough l ≡ true → shown log l ≡ judgeLog log l
+unfolding judgeLog shown
+judged-shown log l h e = rw (h, e)

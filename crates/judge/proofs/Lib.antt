@@ -1,0 +1,8 @@
+-- The laws that the proofs of this crate share.
+-- Assumes nothing.
+pub mod Tags
+pub mod Answers
+pub mod Changing
+pub mod Steps
+pub mod Running
+pub mod Lending

@@ -1,0 +1,132 @@
+-- One turn of the run, and its ends, as the loop over the log meets them.
+-- Assumes nothing.
+use Prim.Native.Nat.{ℕ, zero, suc, _+_, _-_, _<_, _≤_}
+use borrow.Author.Tests.{leb-true}
+use lib.ListN.{drop, drop-of-length-le, length, length-drop, take}
+use lib.Seq.{drop-drop, take-all}
+use mathlib.Core.List.{List, [], _∷_, _++_}
+use mathlib.Core.Path.{_≡_, refl, ap, sym, _∙_}
+use native.Mathlib.Nat.{not-suc-le-zero}
+use native.Mathlib.Omega.{arith}
+use Rattle.fields.proofs.Passing.{all-passed}
+use Rattle.fields.specs.declared.Field.{Field}
+use Rattle.fields.specs.declared.Read.the-variants.{Got, Refused}
+use Rattle.fields.specs.declared.Refusal.{Refusal}
+use Rattle.fields.specs.declared.Refusal.the-variants.{TooManyFields}
+use Rattle.fields.specs.Checks.{valueChecks}
+use Rattle.fields.specs.Limits.{headerBytes}
+use Rattle.fields.specs.Read.{fieldOf, framingChecks, readField, tagIn, valueIn}
+use Rattle.fields.specs.Rows.{lengthOf, rowOf}
+use Rattle.rules.proofs.Tallies.{counted}
+use Rattle.rules.specs.declared.Answer.{Answer}
+use Rattle.rules.specs.declared.Answer.the-variants.{Go, Race, Refuse}
+use Rattle.rules.specs.declared.Tally.{Tally}
+use Rattle.rules.specs.declared.Verdict.{Verdict}
+use Rattle.rules.specs.declared.Verdict.the-variants.{Accepted, Refused as RefusedAt}
+use Rattle.rules.specs.Check.{check}
+use Rattle.rules.specs.Commands.{actOf}
+use Rattle.rules.specs.Effect.{effect}
+use Rattle.rules.specs.Log.{runBytes}
+use Rattle.rules.specs.Run.{Outcome, liveCount, next}
+use Rattle.rules.specs.State.{State}
+use Rattle.judge.specs.declared.run.Next.{Next}
+use Rattle.judge.specs.declared.run.Next.the-variants.{On, Ended}
+use Rattle.judge.specs.Runs.{Onward, followed, nextAfter, runFrom}
+use Rattle.judge.specs.Steps.{Step, stateAfter, stepOf}
+
+-- ---- a field that was read lies within the bytes
+pub got-fits : (s : List ℕ) (f : Field) → readField s ≡ Got f → headerBytes + lengthOf (f .tag) ≤ length s
+unfolding readField fieldOf
+got-fits s f e =
+    let g = fieldOf (tagIn s) (valueIn s) in
+    let p = all-passed Refused (Got g) (framingChecks s ++ valueChecks (rowOf (tagIn s)) g) (Got f) (λ r q. let z : _≡_ {A = ℕ} 0 1 = cc in omega arith) e in
+    let q : Got g ≡ Got f = p .1 in
+    let same : g ≡ f = cc in
+    let tag : tagIn s ≡ f .tag = ap (λ (x : Field). x .tag) same in
+    let header = leb-true 3 (length s) (p .0 .0) in
+    let value = leb-true (lengthOf (tagIn s)) (length (valueIn s)) (p .0 .1 .1 .1 .0) in
+    rw (← tag) (omega (arith, length-drop 3 s))
+
+pub run-opened : (n : ℕ) (b : List ℕ) (s : State) → runFrom n b s ≡ runBytes n b s
+unfolding runFrom
+run-opened n b s = refl
+
+-- ---- the run, by what is read at the front of the bytes
+run-got : (n : ℕ) (b : List ℕ) (s : State) (f : Field) → 0 < length b → readField b ≡ Got f
+    → runFrom (suc n) b s ≡ next (check (actOf f) s) (s .fields) f s (runFrom n (drop (headerBytes + lengthOf (f .tag)) b) (effect (actOf f) s))
+unfolding runFrom
+run-got n [] s f some e = absurd (not-suc-le-zero some)
+run-got n (x ∷ b) s f some e = rw e
+
+run-refused : (n : ℕ) (b : List ℕ) (s : State) (r : Refusal) → 0 < length b → readField b ≡ Refused r
+    → runFrom (suc n) b s ≡ record { verdict = RefusedAt r (s .fields); state = s }
+unfolding runFrom
+run-refused n [] s r some e = absurd (not-suc-le-zero some)
+run-refused n (x ∷ b) s r some e = rw e
+
+run-full : (b : List ℕ) (s : State) → 0 < length b → runFrom 0 b s ≡ record { verdict = RefusedAt TooManyFields (s .fields); state = s }
+unfolding runFrom
+run-full [] s some = absurd (not-suc-le-zero some)
+run-full (x ∷ b) s some = refl
+
+run-none : (n : ℕ) (s : State) → runFrom n [] s ≡ record { verdict = Accepted (s .fields) (s .mallocs) (liveCount (s .status)); state = s }
+unfolding runFrom
+run-none zero s = refl
+run-none (suc n) s = refl
+
+-- ---- one turn, at a place of the log
+module _ (l : List ℕ) (at : ℕ) (within : at < length l) where
+  some-left : 0 < length (drop at l)
+  some-left = rw length-drop (omega arith)
+
+  -- the part that the code reads at
+  part : take (length l - at) (drop at l) ≡ drop at l
+  part = take-all (length l - at) (drop at l) (simp length-drop (omega arith))
+
+  pub turn-refused : (n : ℕ) (s : State) (r : Refusal) → readField (take (length l - at) (drop at l)) ≡ Refused r
+      → _≡_ {A = Outcome} (record { verdict = RefusedAt r (s .fields); state = s }) (runFrom (suc n) (drop at l) s)
+  turn-refused n s r e = sym (run-refused n (drop at l) s r some-left (rw part at e))
+
+  module _ (f : Field) (read : readField (take (length l - at) (drop at l)) ≡ Got f) (s : State) (step : Step) (stepped : step ≡ stepOf (actOf f) s) where
+    by-answer : (n : ℕ) (k : Answer) → followed n (nextAfter k (s .fields) f at) l (stateAfter k s (effect (actOf f) s))
+        ≡ next k (s .fields) f s (runFrom n (drop (headerBytes + lengthOf (f .tag)) (drop at l)) (effect (actOf f) s))
+    by-answer n Go = rw drop-drop
+    by-answer n (Race p) = refl
+    by-answer n (Refuse r) = refl
+
+    pub turn-got : (n : ℕ) → followed n (nextAfter (step .answer) (s .fields) f at) l (step .state) ≡ runFrom (suc n) (drop at l) s
+    unfolding stepOf
+    turn-got n = rw stepped (by-answer n (check (actOf f) s) ∙ sym (run-got n (drop at l) s f some-left (rw part at read)))
+
+    onward-by : (k : Answer) → Onward (nextAfter k (s .fields) f at) at (length l)
+        (record { fields = s .fields; mallocs = s .mallocs })
+        (record { fields = stateAfter k s (effect (actOf f) s) .fields; mallocs = stateAfter k s (effect (actOf f) s) .mallocs })
+    onward-by Go =
+        let fits = got-fits (drop at l) f (rw part at read) in
+        let count = counted (actOf f) s in
+        ((omega arith, omega (arith, length-drop at l)), (count .fields, count .mallocs))
+    onward-by (Race p) = tt
+    onward-by (Refuse r) = tt
+
+    pub turn-onward : Onward (nextAfter (step .answer) (s .fields) f at) at (length l)
+        (record { fields = s .fields; mallocs = s .mallocs })
+        (record { fields = step .state .fields; mallocs = step .state .mallocs })
+    unfolding stepOf
+    turn-onward = rw stepped (onward-by (check (actOf f) s))
+
+  -- ---- the loop: what a turn gives carries on, or ends
+  module _ (x : Next) (s t : State) (o : Outcome) (k m : ℕ) (turned : (n : ℕ) → followed n x l t ≡ runFrom (suc n) (drop at l) s) (fuel : k ≡ suc m) (whole : runFrom k (drop at l) s ≡ o) where
+    pub loop-on : (b : ℕ) → x ≡ On b → runFrom m (drop b l) t ≡ o
+    loop-on b e = (rw e at (turned m)) ∙ (rw fuel at whole)
+
+    pub loop-ended : (v : Verdict) → x ≡ Ended v → _≡_ {A = Outcome} (record { verdict = v; state = t }) o
+    loop-ended v e = (rw e at (turned m)) ∙ (rw fuel at whole)
+
+  pub loop-full : (s : State) (o : Outcome) (k : ℕ) → k ≡ 0 → runFrom k (drop at l) s ≡ o → _≡_ {A = Outcome} (record { verdict = RefusedAt TooManyFields (s .fields); state = s }) o
+  loop-full s o k none whole = sym (run-full (drop at l) s some-left) ∙ (rw none at whole)
+
+pub loop-end : (l : List ℕ) (at : ℕ) (s : State) (o : Outcome) (n c : ℕ) → length l ≤ at → runFrom n (drop at l) s ≡ o → c ≡ liveCount (s .status) → _≡_ {A = Outcome} (record { verdict = Accepted (s .fields) (s .mallocs) c; state = s }) o
+loop-end l at s o n c past whole count = rw count (sym (run-none n s) ∙ (rw (drop-of-length-le l {i = at} past) at whole))
+
+pub onward-on : (x : Next) (b at end : ℕ) (t t′ : Tally) → x ≡ On b → Onward x at end t t′ → Onward (On b) at end t t′
+onward-on x b at end t t′ e h = rw e at h

@@ -1,0 +1,21 @@
+-- `judge::checks::check_races` meets its contract.
+use Rattle.judge.proofs.Answers.{races-join}
+use borrow.Author.Needs.{needs}
+use Rattle.judge.proofs.checks.check_races.Statement.{statement}
+use Rattle.judge.proofs.checks.check_races.Tie as tie
+
+check-valid-requires : tie.Need-check-valid-requires
+check-valid-requires c κs = search needs
+
+check-valid-requires-2 : tie.Need-check-valid-requires-2
+check-valid-requires-2 c κs = search needs
+
+first-of-requires : tie.Need-first-of-requires
+first-of-requires c κs = search needs
+
+returns : tie.Need-returns
+returns c = races-join (c .before .before .before .args .board .pointers) (c .before .before .before .args .looks) _ _ _ (c .before .before .check-valid .ensures) (c .before .check-valid2 .ensures) (c .first-of .ensures)
+
+pub check-races-spec : {M : Type 1} → statement M
+check-races-spec =
+    tie.close (tie.spec check-valid-requires check-valid-requires-2 first-of-requires returns)

@@ -1,0 +1,42 @@
+-- `judge::checks::check_valid` meets its contract.
+use borrow.Author.Needs.{needs}
+use mathlib.Core.Path.{_∙_, sym}
+use Rattle.judge.proofs.checks.check_valid.Statement.{statement}
+use Rattle.judge.proofs.checks.check_valid.Tie as tie
+
+enum-told : tie.Need-enum-told
+enum-told c = search needs
+
+enum-known-look : tie.Need-enum-known-look
+enum-known-look c = search needs
+
+cast-pointer-at : tie.Need-cast-pointer-at
+cast-pointer-at c = search needs
+
+pointer-at-requires : tie.Need-pointer-at-requires
+pointer-at-requires c κs = search needs
+
+is-valid-requires : tie.Need-is-valid-requires
+is-valid-requires c κs = search needs
+
+returns : tie.Need-returns
+returns c = rw (c .before .before .before .before .look .given .1, ← (c .before .before .pointer-at .ensures), sym (c .before .is-valid .ensures) ∙ c .if1 .taken)
+
+returns-2 : tie.Need-returns-2
+returns-2 c = search needs
+
+returns-3 : tie.Need-returns-3
+returns-3 c = rw (c .before .before .before .before .look .given .1, ← (c .before .before .pointer-at .ensures), sym (c .before .is-valid .ensures) ∙ c .if1 .left)
+
+pub check-valid-spec : {M : Type 1} → statement M
+check-valid-spec =
+    tie.close
+    (tie.spec
+    enum-told
+    enum-known-look
+    cast-pointer-at
+    pointer-at-requires
+    is-valid-requires
+    returns
+    returns-2
+    returns-3)

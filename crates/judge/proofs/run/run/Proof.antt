@@ -1,0 +1,165 @@
+-- `judge::run::run` meets its contract. The invariant: the run of what is left, from what is held, gives what the whole run gives.
+use Prim.Native.Nat.{_-_, _≤_}
+use Rattle.judge.proofs.Running.{loop-end, loop-ended, loop-full, loop-on, onward-on, run-opened}
+use Rattle.judge.specs.Runs.{runFrom}
+use Rattle.rules.proofs.Tallies.{live-at-most}
+use Rattle.rules.specs.State.{freshBoard, freshTally, stateOf}
+use borrow.Author.Needs.{needs}
+use lib.ListN.{drop, length}
+use mathlib.Core.Path.{_≡_, _∙_, refl}
+use native.Mathlib.Omega.{arith}
+use Rattle.judge.proofs.run.run.Statement.{statement}
+use Rattle.judge.proofs.run.run.Tie as tie
+
+abbrev Inv-loop : tie.InvT-loop
+Inv-loop log selectors₀ numbers₀ status₀ board₀ tally₀ at₀ selectors numbers status board tally at =
+    ((at ≤ length log) × ((length selectors ≡ length selectors₀) × ((length numbers ≡ length numbers₀) × (length status ≡ length status₀))))
+    × (((tally .fields ≤ 4096) × (tally .mallocs ≤ tally .fields))
+    × (runFrom (4096 - tally .fields) (drop at log) (stateOf board tally selectors numbers status) ≡ runFrom 4096 log (stateOf freshBoard freshTally selectors₀ numbers₀ status₀)))
+
+abbrev μ-loop : tie.MeasureT-loop
+μ-loop log selectors₀ numbers₀ status₀ board₀ tally₀ at₀ selectors numbers status board tally at = length log - at
+
+fresh-requires : tie.Need-fresh-requires Inv-loop μ-loop
+fresh-requires c κs = search needs
+
+fresh-requires-2 : tie.Need-fresh-requires-2 Inv-loop μ-loop
+fresh-requires-2 c κs = search needs
+
+loop-holds : tie.Need-loop-holds Inv-loop μ-loop
+loop-holds c = rw (c .fresh2 .ensures, c .before .fresh .ensures) ((omega arith, (refl, (refl, refl))), ((omega arith, omega arith), refl))
+
+cast-if1 : tie.Need-cast-if1 Inv-loop μ-loop
+cast-if1 c = search needs
+
+ended-requires : tie.Need-ended-requires Inv-loop μ-loop
+ended-requires c κs = search needs
+
+same-length : tie.Need-same-length Inv-loop μ-loop
+same-length c = search needs
+
+same-length-2 : tie.Need-same-length-2 Inv-loop μ-loop
+same-length-2 c = search needs
+
+same-length-3 : tie.Need-same-length-3 Inv-loop μ-loop
+same-length-3 c = search needs
+
+returns : tie.Need-returns Inv-loop μ-loop
+returns c =
+    let h = c .before .before .before .loop in
+    let s = stateOf (h .board) (h .tally) (h .selectors) (h .numbers) (h .status) in
+    rw (c .ended .ensures)
+    (loop-full (c .before .before .before .before .before .before .before .before .before .before .args .log .now) (h .at) (c .before .before .loop-test .taken) s _ _ (omega (arith, c .before .if1 .taken)) (h .inv .1 .1)
+    ∙ run-opened _ _ _)
+
+turn-at-requires : tie.Need-turn-at-requires Inv-loop μ-loop
+turn-at-requires c κs = ((c .before .before .before .before .loop-test .taken, c .before .before .before .before .before .before .before .before .before .before .before .before .pre .0), (omega (arith, c .before .before .before .if1 .left), c .before .before .before .before .before .loop .inv .1 .0 .1))
+
+enum-known-next : tie.Need-enum-known-next Inv-loop μ-loop
+enum-known-next c = search needs
+
+loop-less : tie.Need-loop-less Inv-loop μ-loop
+loop-less c =
+    let h = c .before .before .before .before .before .before .before .before .before .before .before .before .before .before .before .before .before .loop in
+    let turn = c .before .before .before .before .before .before .before .before .before .before .before .turn-at in
+    let o = onward-on (turn .result .next) _ (h .at) (length (c .before .before .before .before .before .before .before .before .before .before .before .before .before .before .before .before .before .before .before .before .before .before .before .before .args .log .now)) (h .tally) (turn .result .tally) (c .before .next .given .1) (turn .ensures .1) in
+    omega (arith, o .0 .0, o .0 .1)
+
+loop-again : tie.Need-loop-again Inv-loop μ-loop
+loop-again c =
+    let h = c .before .before .before .before .before .before .before .before .before .before .before .before .before .before .before .before .before .loop in
+    let s = stateOf (h .board) (h .tally) (h .selectors) (h .numbers) (h .status) in
+    let turn = c .before .before .before .before .before .before .before .before .before .before .before .turn-at in
+    let log = c .before .before .before .before .before .before .before .before .before .before .before .before .before .before .before .before .before .before .before .before .before .before .before .before .args .log .now in
+    let some = c .before .before .before .before .before .before .before .before .before .before .before .before .before .before .before .if1 .left in
+    let o = onward-on (turn .result .next) _ (h .at) (length log) (h .tally) (turn .result .tally) (c .before .next .given .1) (turn .ensures .1) in (
+      (o .0 .1, search needs),
+      (
+        (omega (arith, o .1 .0, some), omega (arith, o .1 .0, o .1 .1, h .inv .1 .0 .1)),
+        loop-on log (h .at) (c .before .before .before .before .before .before .before .before .before .before .before .before .before .before .before .before .loop-test .taken) (turn .result .next) s _ _ _ _ (turn .ensures .0) (omega (arith, o .1 .0, some)) (h .inv .1 .1) _ (c .before .next .given .1),
+      ),
+    )
+
+enum-known-next-2 : tie.Need-enum-known-next-2 Inv-loop μ-loop
+enum-known-next-2 c = search needs
+
+ended-requires-2 : tie.Need-ended-requires-2 Inv-loop μ-loop
+ended-requires-2 c κs = search needs
+
+same-length-4 : tie.Need-same-length-4 Inv-loop μ-loop
+same-length-4 c = search (needs, c .before .before .before .before .before .before .before .before .before .before .before .before .before .before .before .before .before .before .loop .inv .0 .1 .0)
+
+same-length-5 : tie.Need-same-length-5 Inv-loop μ-loop
+same-length-5 c = search (needs, c .before .before .before .before .before .before .before .before .before .before .before .before .before .before .before .before .before .before .loop .inv .0 .1 .1 .0)
+
+same-length-6 : tie.Need-same-length-6 Inv-loop μ-loop
+same-length-6 c = search (needs, c .before .before .before .before .before .before .before .before .before .before .before .before .before .before .before .before .before .before .loop .inv .0 .1 .1 .1)
+
+returns-2 : tie.Need-returns-2 Inv-loop μ-loop
+returns-2 c =
+    let h = c .before .before .before .before .before .before .before .before .before .before .before .before .before .before .before .before .before .before .loop in
+    let s = stateOf (h .board) (h .tally) (h .selectors) (h .numbers) (h .status) in
+    let turn = c .before .before .before .before .before .before .before .before .before .before .before .before .turn-at in
+    let some = c .before .before .before .before .before .before .before .before .before .before .before .before .before .before .before .before .if1 .left in
+    rw (c .ended2 .ensures)
+    (loop-ended (c .before .before .before .before .before .before .before .before .before .before .before .before .before .before .before .before .before .before .before .before .before .before .before .before .before .args .log .now) (h .at) (c .before .before .before .before .before .before .before .before .before .before .before .before .before .before .before .before .before .loop-test .taken) (turn .result .next) s _ _ _ (4095 - h .tally .fields) (turn .ensures .0) (omega (arith, some)) (h .inv .1 .1) _ (c .before .before .next2 .given .1)
+    ∙ run-opened _ _ _)
+
+live-count-requires : tie.Need-live-count-requires Inv-loop μ-loop
+live-count-requires c κs = search needs
+
+cast-live : tie.Need-cast-live Inv-loop μ-loop
+cast-live c = omega (arith, c .live-count .ensures, live-at-most (c .before .before .before .loop .status), c .before .before .before .loop .inv .0 .1 .1 .1, c .before .before .before .before .before .before .before .before .before .before .pre .1)
+
+ended-requires-3 : tie.Need-ended-requires-3 Inv-loop μ-loop
+ended-requires-3 c κs = search needs
+
+same-length-7 : tie.Need-same-length-7 Inv-loop μ-loop
+same-length-7 c = search needs
+
+same-length-8 : tie.Need-same-length-8 Inv-loop μ-loop
+same-length-8 c = search needs
+
+same-length-9 : tie.Need-same-length-9 Inv-loop μ-loop
+same-length-9 c = search needs
+
+returns-3 : tie.Need-returns-3 Inv-loop μ-loop
+returns-3 c =
+    let h = c .before .before .before .before .loop in
+    let s = stateOf (h .board) (h .tally) (h .selectors) (h .numbers) (h .status) in
+    rw (c .ended3 .ensures)
+    (loop-end (c .before .before .before .before .before .before .before .before .before .before .before .args .log .now) (h .at) s _ _ _ (c .before .before .before .loop-test .left) (h .inv .1 .1) (c .before .live-count .ensures)
+    ∙ run-opened _ _ _)
+
+pub run-spec : {M : Type 1} → statement M
+run-spec =
+    tie.close
+    (tie.spec
+    Inv-loop
+    μ-loop
+    fresh-requires
+    fresh-requires-2
+    loop-holds
+    cast-if1
+    ended-requires
+    same-length
+    same-length-2
+    same-length-3
+    returns
+    turn-at-requires
+    enum-known-next
+    loop-less
+    loop-again
+    enum-known-next-2
+    ended-requires-2
+    same-length-4
+    same-length-5
+    same-length-6
+    returns-2
+    live-count-requires
+    cast-live
+    ended-requires-3
+    same-length-7
+    same-length-8
+    same-length-9
+    returns-3)

@@ -1,0 +1,27 @@
+-- One field's step: its answer, and the state after it, which a stop leaves as it was.
+-- Assumes nothing.
+use Prim.Native.Nat.{ℕ}
+use mathlib.Core.List.{List}
+use Rattle.rules.specs.declared.Act.{Act}
+use Rattle.rules.specs.declared.Answer.{Answer}
+use Rattle.rules.specs.declared.Answer.the-variants.{Go, Race, Refuse}
+use Rattle.rules.specs.Check.{check}
+use Rattle.rules.specs.Effect.{effect}
+use Rattle.rules.specs.State.{State, stateOf}
+use Rattle.judge.specs.declared.step.Stepped.{Stepped}
+
+pub record Step : Type 0 where
+  pub answer : Answer
+  pub state : State
+
+abbrev pub stateAfter : Answer → State → State → State
+stateAfter Go before after = after
+stateAfter (Race p) before after = before
+stateAfter (Refuse r) before after = before
+
+unfoldable pub stepOf : Act → State → Step
+stepOf a s = record { answer = check a s; state = stateAfter (check a s) s (effect a s) }
+
+-- the step that the code has made
+abbrev pub stepped : Stepped → List ℕ → List ℕ → List ℕ → Step
+stepped r selectors numbers status = record { answer = r .answer; state = stateOf (r .board) (r .tally) selectors numbers status }

@@ -1,0 +1,185 @@
+// The checks of one command against the heap: 11, race, 12, 13, 14. Each gives its own answer, and the first that is not Go speaks.
+ghost use mathlib.Core.Bool.{cond};
+ghost use mathlib.Core.List.{List};
+ghost use mathlib.Core.Path.{_≡_};
+ghost use Prim.Native.Nat.{ℕ};
+ghost use Rattle.judge.specs.Answers.{first, racesIn, roomIn, unsetIn, vacantIn};
+ghost use Rattle.judge.specs.Looks.{cellIn, lookIn, looksIn};
+ghost use Rattle.rules.specs.Check.{asWanted, check, holdsIn, sameAsWanted};
+ghost use Rattle.rules.specs.State.{stateOf};
+use super::looks::Given;
+use super::looks::Look;
+use super::looks::Looks;
+use super::looks::compared;
+use super::looks::frees;
+use super::looks::gives;
+use super::looks::through;
+use fields::Log;
+use fields::Refusal;
+use heap::cell_of;
+use heap::is_unset;
+use heap::is_valid;
+use heap::pointer_at;
+use heap::status_at;
+use heap::variable_at;
+use rules::Act;
+use rules::Answer;
+use rules::Board;
+use rules::Guard;
+use rules::Heap;
+use rules::Tally;
+
+fn first_of(answer: Answer, later: Answer) -> Answer
+    ensures { λ r. ⌜ r ≡ first answer later ⌝ }
+{
+    match answer {
+        Answer::Go => later,
+        Answer::Race(p) => Answer::Race(p),
+        Answer::Refuse(why) => Answer::Refuse(why),
+    }
+}
+
+// 11: a malloc is left for the cell.
+fn check_room(given: Given, mallocs: u32) -> Answer
+    ensures { λ r. ⌜ r ≡ roomIn mallocs (cellIn given) ⌝ }
+{
+    match given {
+        Given::Nothing => Answer::Go,
+        Given::Cell(_) => {
+            if mallocs < (Log::MALLOCS as u32) {
+                return Answer::Go;
+            }
+            Answer::Refuse(Refusal::TooManyMallocs)
+        }
+    }
+}
+
+fn check_valid(board: Board, look: Look) -> Answer
+    ensures { λ r. ⌜ r ≡ racesIn (board .pointers) (lookIn look) ⌝ }
+{
+    match look {
+        Look::Nowhere => Answer::Go,
+        Look::At(p) => {
+            if is_valid(pointer_at(board, p as usize)) {
+                return Answer::Go;
+            }
+            Answer::Race(p)
+        }
+    }
+}
+
+fn check_races(board: Board, looks: Looks) -> Answer
+    ensures { λ r. ⌜ r ≡ racesIn (board .pointers) (looksIn looks) ⌝ }
+{
+    let first = looks.first;
+    let second = looks.second;
+    first_of(check_valid(board, first), check_valid(board, second))
+}
+
+fn check_points(board: Board, look: Look) -> Answer
+    ensures { λ r. ⌜ r ≡ unsetIn (board .pointers) (lookIn look) ⌝ }
+{
+    match look {
+        Look::Nowhere => Answer::Go,
+        Look::At(p) => {
+            if is_unset(pointer_at(board, p as usize)) {
+                return Answer::Refuse(Refusal::UnsetPointer);
+            }
+            Answer::Go
+        }
+    }
+}
+
+// 12: the pointers gone through point to cells.
+fn check_unset(board: Board, looks: Looks) -> Answer
+    ensures { λ r. ⌜ r ≡ unsetIn (board .pointers) (looksIn looks) ⌝ }
+{
+    let first = looks.first;
+    let second = looks.second;
+    first_of(check_points(board, first), check_points(board, second))
+}
+
+// 13: the cell is not live.
+fn check_vacant(given: Given, status: &[u8]) -> Answer
+    ensures { λ r. ⌜ r ≡ vacantIn (now (status .entry)) (cellIn given) ⌝ }
+{
+    match given {
+        Given::Nothing => Answer::Go,
+        Given::Cell(cell) => {
+            if status_at(status, cell.0 as usize) == Heap::LIVE {
+                return Answer::Refuse(Refusal::LiveCell);
+            }
+            Answer::Go
+        }
+    }
+}
+
+fn as_wanted(wanted: bool, found: bool) -> bool
+    ensures { λ r. ⌜ r ≡ asWanted wanted found ⌝ }
+{
+    if wanted {
+        return found;
+    }
+    !found
+}
+
+// Where either side is unset, both = and ≠ pass.
+fn same_as_wanted(wanted: bool, v: u16, w: u16) -> bool
+    ensures { λ r. ⌜ r ≡ sameAsWanted wanted v w ⌝ }
+{
+    if is_unset(v) {
+        return true;
+    }
+    if is_unset(w) {
+        return true;
+    }
+    as_wanted(wanted, cell_of(v) == cell_of(w))
+}
+
+fn holds(board: Board, guard: Guard) -> bool
+    ensures { λ r. ⌜ r ≡ holdsIn (board .pointers) (board .variables) guard ⌝ }
+{
+    match guard {
+        Guard::Always => true,
+        Guard::Same(wanted, p, q) => same_as_wanted(
+            wanted,
+            pointer_at(board, p as usize),
+            pointer_at(board, q as usize),
+        ),
+        Guard::Equal(wanted, x, y) => as_wanted(
+            wanted,
+            variable_at(board, x as usize) == variable_at(board, y as usize),
+        ),
+    }
+}
+
+// 14: the assertion holds.
+fn check_guard(board: Board, guard: Guard) -> Answer
+    ensures { λ r. ⌜ r ≡ cond (holdsIn (board .pointers) (board .variables) guard) Answer.Go (Answer.Refuse Refusal.AssertionFails) ⌝ }
+{
+    if holds(board, guard) {
+        return Answer::Go;
+    }
+    Answer::Refuse(Refusal::AssertionFails)
+}
+
+// All the checks in their order. None reads selectors or numbers, so what is said holds whatever these are.
+pub fn check_act(act: Act, board: Board, tally: Tally, status: &[u8]) -> Answer
+    ensures { λ r. ⌜ ((selectors numbers : List ℕ) → r ≡ check act (stateOf board tally selectors numbers (now (status .entry)))) ⌝ }
+{
+    let guard = act.guard;
+    let change = act.change;
+    let given = gives(change);
+    let passed = through(change);
+    let room = check_room(given, tally.mallocs);
+    let asserted = check_races(board, compared(guard));
+    let freed = check_races(board, frees(change));
+    let races = first_of(asserted, first_of(freed, check_races(board, passed)));
+    let unset = check_unset(board, passed);
+    let vacant = check_vacant(given, status);
+    let holding = check_guard(board, guard);
+    first_of(
+        room,
+        first_of(races, first_of(unset, first_of(vacant, holding))),
+    )
+}

@@ -1,0 +1,12 @@
+// Judging a log of pointer commands over what the caller lends.
+// One field's step, its checks and its effects stand in private modules: judging one field against a heap of the caller's making is not offered.
+mod acts;
+mod checks;
+mod effects;
+mod lent;
+mod looks;
+mod run;
+mod step;
+
+pub use lent::Judged;
+pub use lent::judge_log;
