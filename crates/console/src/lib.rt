@@ -1,6 +1,7 @@
 // What the programs share: the log on standard input read, and a verdict's line written.
 // No contract can say what is read or written; what is judged and how it is told is proved in the crates below.
 ghost use Prim.Native.Nat.{_≤_};
+ghost use lib.ListN.{length};
 use fields::Log;
 use libc::STDIN_FILENO;
 use rules::Printed;
@@ -21,7 +22,7 @@ fn drain() {
 
 // Standard input as a log. Where it is longer than a log may be, the log is one byte too long.
 pub fn read_log() -> Log
-    ensures { λ r. ⌜ r .length ≤ 45057 ⌝ }
+    ensures { λ r. ⌜ r .length ≤ length (r .bytes) ⌝ }
 {
     let fresh = Log::fresh();
     let mut bytes = fresh.bytes;
