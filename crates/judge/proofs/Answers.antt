@@ -27,13 +27,13 @@ module _ {K : Type 0} (passes : K → Bool) (says : K → Answer) (stops : (k : 
   first-cond true k x y = refl
   first-cond false k x y = stops k y
 
-  pub answer-then : (ks : List K) (later : List (Test Answer)) → answerOf (each passes says ks ++ later) ≡ first (answerOf (each passes says ks)) (answerOf later)
+  answer-then : (ks : List K) (later : List (Test Answer)) → answerOf (each passes says ks ++ later) ≡ first (answerOf (each passes says ks)) (answerOf later)
   answer-then [] later = refl
   answer-then (k ∷ ks) later =
       ap (λ (x : Answer). cond (passes k) x (says k)) (answer-then ks later)
       ∙ sym (first-cond (passes k) k (answerOf (each passes says ks)) (answerOf later))
 
-  pub answer-append : (ks ms : List K) → answerOf (each passes says (ks ++ ms)) ≡ first (answerOf (each passes says ks)) (answerOf (each passes says ms))
+  answer-append : (ks ms : List K) → answerOf (each passes says (ks ++ ms)) ≡ first (answerOf (each passes says ks)) (answerOf (each passes says ms))
   answer-append ks ms = rw (each-append ks ms) (answer-then ks (each passes says ms))
 
 pub races-join : (pointers : List ℕ) (l : Looks) (x y r : Answer) → x ≡ racesIn pointers (lookIn (l .first)) → y ≡ racesIn pointers (lookIn (l .second)) → r ≡ first x y → r ≡ racesIn pointers (looksIn l)

@@ -6,3 +6,5 @@ pub mod Changing
 pub mod Steps
 pub mod Running
 pub mod Lending
+pub mod OneResult
+pub mod Fakes

@@ -35,7 +35,7 @@ use Rattle.judge.specs.Runs.{Onward, followed, nextAfter, runFrom}
 use Rattle.judge.specs.Steps.{Step, stateAfter, stepOf}
 
 -- ---- a field that was read lies within the bytes
-pub got-fits : (s : List ℕ) (f : Field) → readField s ≡ Got f → headerBytes + lengthOf (f .tag) ≤ length s
+got-fits : (s : List ℕ) (f : Field) → readField s ≡ Got f → headerBytes + lengthOf (f .tag) ≤ length s
 unfolding readField fieldOf
 got-fits s f e =
     let g = fieldOf (tagIn s) (valueIn s) in

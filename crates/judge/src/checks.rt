@@ -54,7 +54,7 @@ fn check_room(given: Given, mallocs: u32) -> Answer
     }
 }
 
-fn check_valid(board: Board, look: Look) -> Answer
+fn race_at(board: Board, look: Look) -> Answer
     ensures { λ r. ⌜ r ≡ racesIn (board .pointers) (lookIn look) ⌝ }
 {
     match look {
@@ -73,10 +73,10 @@ fn check_races(board: Board, looks: Looks) -> Answer
 {
     let first = looks.first;
     let second = looks.second;
-    first_of(check_valid(board, first), check_valid(board, second))
+    first_of(race_at(board, first), race_at(board, second))
 }
 
-fn check_points(board: Board, look: Look) -> Answer
+fn unset_at(board: Board, look: Look) -> Answer
     ensures { λ r. ⌜ r ≡ unsetIn (board .pointers) (lookIn look) ⌝ }
 {
     match look {
@@ -96,7 +96,7 @@ fn check_unset(board: Board, looks: Looks) -> Answer
 {
     let first = looks.first;
     let second = looks.second;
-    first_of(check_points(board, first), check_points(board, second))
+    first_of(unset_at(board, first), unset_at(board, second))
 }
 
 // 13: the cell is not live.

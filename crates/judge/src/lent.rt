@@ -8,6 +8,7 @@ ghost use Rattle.judge.specs.Runs.{ranTo};
 ghost use Rattle.rules.specs.Judging.{judged, lent, longEnough};
 ghost use Rattle.rules.specs.Log.{runBytes};
 ghost use Rattle.rules.specs.State.{fresh, heapSelectors};
+use super::Judged;
 use super::run::Ran;
 use super::run::run;
 use fields::Log;
@@ -21,12 +22,6 @@ use rules::Board;
 use rules::Heap;
 use rules::Tally;
 use rules::Verdict;
-
-// What is said of a log, and the tally afterwards.
-pub struct Judged {
-    pub verdict: Verdict,
-    pub tally: Tally,
-}
 
 fn long_enough(
     pointers: &[u16],

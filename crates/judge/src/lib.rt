@@ -8,5 +8,12 @@ mod looks;
 mod run;
 mod step;
 
-pub use lent::Judged;
 pub use lent::judge_log;
+use rules::Tally;
+use rules::Verdict;
+
+// What is said of a log, and the tally afterwards.
+pub struct Judged {
+    pub verdict: Verdict,
+    pub tally: Tally,
+}

@@ -1,8 +1,8 @@
--- `judge::checks::check_points` meets its contract.
+-- `judge::checks::unset_at` meets its contract.
 use borrow.Author.Needs.{needs}
 use mathlib.Core.Path.{_∙_, sym}
-use Rattle.judge.proofs.checks.check_points.Statement.{statement}
-use Rattle.judge.proofs.checks.check_points.Tie as tie
+use Rattle.judge.proofs.checks.unset_at.Statement.{statement}
+use Rattle.judge.proofs.checks.unset_at.Tie as tie
 
 enum-told : tie.Need-enum-told
 enum-told c = search needs
@@ -28,8 +28,8 @@ returns-2 c = search needs
 returns-3 : tie.Need-returns-3
 returns-3 c = rw (c .before .before .before .before .look .given .1, ← (c .before .before .pointer-at .ensures), sym (c .before .is-unset .ensures) ∙ c .if1 .left)
 
-pub check-points-spec : {M : Type 1} → statement M
-check-points-spec =
+pub unset-at-spec : {M : Type 1} → statement M
+unset-at-spec =
     tie.close
     (tie.spec
     enum-told

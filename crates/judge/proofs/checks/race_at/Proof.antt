@@ -1,8 +1,8 @@
--- `judge::checks::check_valid` meets its contract.
+-- `judge::checks::race_at` meets its contract.
 use borrow.Author.Needs.{needs}
 use mathlib.Core.Path.{_∙_, sym}
-use Rattle.judge.proofs.checks.check_valid.Statement.{statement}
-use Rattle.judge.proofs.checks.check_valid.Tie as tie
+use Rattle.judge.proofs.checks.race_at.Statement.{statement}
+use Rattle.judge.proofs.checks.race_at.Tie as tie
 
 enum-told : tie.Need-enum-told
 enum-told c = search needs
@@ -28,8 +28,8 @@ returns-2 c = search needs
 returns-3 : tie.Need-returns-3
 returns-3 c = rw (c .before .before .before .before .look .given .1, ← (c .before .before .pointer-at .ensures), sym (c .before .is-valid .ensures) ∙ c .if1 .left)
 
-pub check-valid-spec : {M : Type 1} → statement M
-check-valid-spec =
+pub race-at-spec : {M : Type 1} → statement M
+race-at-spec =
     tie.close
     (tie.spec
     enum-told

@@ -1,0 +1,18 @@
+-- Two results that judging's contract allows are equal: verdict, tally and all five buffers.
+-- Assumes nothing.
+use Prim.Native.Nat.{ℕ}
+use mathlib.Core.List.{List}
+use mathlib.Core.Path.{_≡_, _∙_, ap, sym}
+use Rattle.rules.specs.declared.Tally.{Tally}
+use Rattle.rules.specs.declared.Verdict.{Verdict}
+use Rattle.rules.specs.Judging.{Judged, Lent, judged, lent}
+use Rattle.judge.specs.Judges.{Judges}
+
+pub one-judgement : (log pointers selectors variables numbers status : List ℕ) (tally : Tally)
+    (v v′ : Verdict) (t t′ : Tally) (p p′ s s′ x x′ n n′ u u′ : List ℕ)
+    → Judges log pointers selectors variables numbers status tally v t p s x n u
+    → Judges log pointers selectors variables numbers status tally v′ t′ p′ s′ x′ n′ u′
+    → (v ≡ v′) × (lent p s x n u t ≡ lent p′ s′ x′ n′ u′ t′)
+one-judgement log pointers selectors variables numbers status tally v v′ t t′ p p′ s s′ x x′ n n′ u u′ e e′ =
+    let same = e ∙ sym e′ in
+    (ap (λ (j : Judged). j .verdict) same, ap (λ (j : Judged). j .after) same)
