@@ -5,10 +5,11 @@ use mathlib.Core.Path.{_≡_, refl}
 use mathlib.Core.Bool.{Bool, true, false, _&&_}
 use mathlib.Core.List.{List, [], _∷_, _++_}
 use lib.Dec.{eqb, T}
+use lib.ListN.{getD}
 use Rattle.fields.specs.declared.Field.{Field}
 use Rattle.fields.specs.Limits.{logFields}
 use Rattle.fields.specs.Rows.{rowOf, isTag, widthsOf, lengthOf}
-use Rattle.fields.specs.Numbers.{fieldWith}
+use Rattle.fields.specs.Numbers.{fieldWith, numbersOf}
 use Rattle.fields.specs.Checks.{mayName}
 use Rattle.fields.specs.Read.{fieldOf, readField}
 use Rattle.rules.specs.declared.Place.{Place}
@@ -22,20 +23,24 @@ use Rattle.rules.specs.Check.{sameAsWanted, checkBy}
 use Rattle.rules.specs.Effect.{give, free, countField}
 use Rattle.rules.specs.Run.{run}
 use Rattle.rules.specs.Log.{runBytes}
+use Rattle.rules.specs.Replay.{replay, startingData}
 use Rattle.rules.specs.Verdicts.{accepted, race, refused, Line, line, lineOf}
 
--- what a case tells besides its verdict: a word or a number of the state that is left
+-- what a case tells besides its verdict: a word or a number of the state that is left, or a field
 pub data Fact : Type 0 where
   wordIs : Place → ℕ → Fact
   datumIs : DataPlace → ℕ → Fact
+  fieldIs : ℕ → Field → Fact
 
 pub record Case : Type 0 where
   pub log : List Field
   pub verdict : Line
+  -- of the log, and of its replay
   pub facts : List Fact
+  pub replayed : List Fact
 
-abbrev pub case : List Field → List ℕ → List ℕ → List Fact → Case
-case log word numbers facts = record { log = log; verdict = line word numbers; facts = facts }
+abbrev pub case : List Field → List ℕ → List ℕ → List Fact → List Fact → Case
+case log word numbers facts replayed = record { log = log; verdict = line word numbers; facts = facts; replayed = replayed }
 
 abbrev pub alike : List ℕ → List ℕ → Bool
 alike [] [] = true
@@ -46,19 +51,26 @@ alike (x ∷ xs) (y ∷ ys) = eqb x y && alike xs ys
 abbrev pub sameLine : Line → Line → Bool
 sameLine l m = alike (l .word) (m .word) && alike (l .numbers) (m .numbers)
 
-abbrev pub factHolds : State → Fact → Bool
-factHolds s (wordIs x w) = eqb (word s x) w
-factHolds s (datumIs x n) = eqb (datum s x) n
+abbrev pub sameField : Field → Field → Bool
+sameField f g = alike (f .tag ∷ numbersOf f) (g .tag ∷ numbersOf g)
 
-abbrev pub factsHold : State → List Fact → Bool
-factsHold s [] = true
-factsHold s (fact ∷ facts) = factHolds s fact && factsHold s facts
+-- of a log, and of the state that it leaves
+abbrev pub factHolds : List Field → State → Fact → Bool
+factHolds log s (wordIs x w) = eqb (word s x) w
+factHolds log s (datumIs x n) = eqb (datum s x) n
+factHolds log s (fieldIs i f) = sameField (getD log i (fieldWith 0 [])) f
+
+abbrev pub factsHold : List Field → List Fact → Bool
+factsHold log [] = true
+factsHold log (fact ∷ facts) = factHolds log (run log fresh .state) fact && factsHold log facts
 
 abbrev pub right : List Case → Bool
 right [] = true
 right (c ∷ cs) =
-    let outcome = run (c .log) fresh in
-    sameLine (lineOf (outcome .verdict)) (c .verdict) && factsHold (outcome .state) (c .facts) && right cs
+    sameLine (lineOf (run (c .log) fresh .verdict)) (c .verdict)
+    && factsHold (c .log) (c .facts)
+    && factsHold (replay fresh (c .log)) (c .replayed)
+    && right cs
 
 -- ---- fields: a tag, and its numbers in the order thread, first, second, third, cell, number; those left out are 0
 abbrev pub M : ℕ → ℕ → ℕ → Field
@@ -88,37 +100,37 @@ logP =
 abbrev pub cases : List Case
 cases =
     -- A: empty
-    case [] accepted (0 ∷ 0 ∷ 0 ∷ []) []
+    case [] accepted (0 ∷ 0 ∷ 0 ∷ []) [] []
     -- B: M(0,5,7); free p0
-    ∷ case (M 0 5 7 ∷ freeOf 0 ∷ []) accepted (2 ∷ 1 ∷ 0 ∷ []) []
+    ∷ case (M 0 5 7 ∷ freeOf 0 ∷ []) accepted (2 ∷ 1 ∷ 0 ∷ []) [] []
     -- C: M(0,5,7); thread 1: p24 := p0; thread 0: free p0; thread 1: x24 := p24.data
-    ∷ case (handedOn ++ (lateRead ∷ [])) race (3 ∷ 1 ∷ 24 ∷ []) []
+    ∷ case (handedOn ++ (lateRead ∷ [])) race (3 ∷ 1 ∷ 24 ∷ []) [] []
     -- D: as C, with M(1,5,7) before the last
-    ∷ case (handedOn ++ (M 1 5 7 ∷ lateRead ∷ [])) race (4 ∷ 1 ∷ 24 ∷ []) []
+    ∷ case (handedOn ++ (M 1 5 7 ∷ lateRead ∷ [])) race (4 ∷ 1 ∷ 24 ∷ []) [] []
     -- E: M(0,5,0); M(1,6,0); p0.0 := p1; free p0; M(0,5,0); p16 := p0.0
-    ∷ case logE accepted (6 ∷ 3 ∷ 2 ∷ []) (wordIs (PointerWord 16) 2054 ∷ [])
+    ∷ case logE accepted (6 ∷ 3 ∷ 2 ∷ []) (wordIs (PointerWord 16) 2054 ∷ []) (wordIs (PointerWord 16) 1024 ∷ [])
     -- F: E, then thread 0 asserts p16 = p1
-    ∷ case (logE ++ (fieldWith 9 (0 ∷ 16 ∷ 1 ∷ []) ∷ [])) race (6 ∷ 0 ∷ 16 ∷ []) []
+    ∷ case (logE ++ (fieldWith 9 (0 ∷ 16 ∷ 1 ∷ []) ∷ [])) race (6 ∷ 0 ∷ 16 ∷ []) [] []
     -- G: M(0,5,0) twice
-    ∷ case (M 0 5 0 ∷ M 0 5 0 ∷ []) refused (13 ∷ 1 ∷ []) []
+    ∷ case (M 0 5 0 ∷ M 0 5 0 ∷ []) refused (13 ∷ 1 ∷ []) [] []
     -- H: x0 := p0.data
-    ∷ case (fieldWith 6 (0 ∷ 0 ∷ 0 ∷ []) ∷ []) refused (12 ∷ 0 ∷ []) []
+    ∷ case (fieldWith 6 (0 ∷ 0 ∷ 0 ∷ []) ∷ []) refused (12 ∷ 0 ∷ []) [] []
     -- I: free p0
-    ∷ case (freeOf 0 ∷ []) accepted (1 ∷ 0 ∷ 0 ∷ []) []
+    ∷ case (freeOf 0 ∷ []) accepted (1 ∷ 0 ∷ 0 ∷ []) [] []
     -- J: assert p0 ≠ p0
-    ∷ case (fieldWith 10 (0 ∷ 0 ∷ 0 ∷ []) ∷ []) accepted (1 ∷ 0 ∷ 0 ∷ []) []
+    ∷ case (fieldWith 10 (0 ∷ 0 ∷ 0 ∷ []) ∷ []) accepted (1 ∷ 0 ∷ 0 ∷ []) [] []
     -- K: M(0,5,0); assert p0 ≠ p0
-    ∷ case (M 0 5 0 ∷ fieldWith 10 (0 ∷ 0 ∷ 0 ∷ []) ∷ []) refused (14 ∷ 1 ∷ []) []
+    ∷ case (M 0 5 0 ∷ fieldWith 10 (0 ∷ 0 ∷ 0 ∷ []) ∷ []) refused (14 ∷ 1 ∷ []) [] []
     -- L: M(0,5,7); free p0; M(0,5,9); x0 := p0.data
-    ∷ case (M 0 5 7 ∷ freeOf 0 ∷ M 0 5 9 ∷ fieldWith 6 (0 ∷ 0 ∷ 0 ∷ []) ∷ []) accepted (4 ∷ 2 ∷ 1 ∷ []) (datumIs (VariableNumber 0) 7 ∷ [])
+    ∷ case (M 0 5 7 ∷ freeOf 0 ∷ M 0 5 9 ∷ fieldWith 6 (0 ∷ 0 ∷ 0 ∷ []) ∷ []) accepted (4 ∷ 2 ∷ 1 ∷ []) (datumIs (VariableNumber 0) 7 ∷ []) (fieldIs 2 (M 0 1 7) ∷ [])
     -- O: M(0,5,0); free p0; M(0,5,0); thread 0: p16 := p0.0; free p16, which leaves the word that it met
-    ∷ case (M 0 5 0 ∷ freeOf 0 ∷ M 0 5 0 ∷ fieldWith 4 (0 ∷ 16 ∷ 0 ∷ 0 ∷ []) ∷ freeOf 16 ∷ []) race (4 ∷ 0 ∷ 16 ∷ []) (wordIs (PointerWord 16) 3072 ∷ [])
+    ∷ case (M 0 5 0 ∷ freeOf 0 ∷ M 0 5 0 ∷ fieldWith 4 (0 ∷ 16 ∷ 0 ∷ 0 ∷ []) ∷ freeOf 16 ∷ []) race (4 ∷ 0 ∷ 16 ∷ []) (wordIs (PointerWord 16) 3072 ∷ []) []
     -- P: x0 := 4294967295; x1 := 1; x2 := x0 + x1; assert x2 = x3
-    ∷ case logP accepted (4 ∷ 0 ∷ 0 ∷ []) []
+    ∷ case logP accepted (4 ∷ 0 ∷ 0 ∷ []) [] []
     ∷ []
 
 pub cases-hold : T (right cases)
-unfolding isValid cellOf isUnset invalidated afterFree fresh write store commandOf sameAsWanted checkBy give free countField
+unfolding isValid cellOf isUnset invalidated afterFree fresh write store commandOf sameAsWanted checkBy give free countField startingData
 cases-hold = tt
 
 -- C as the 28 bytes that document 01 gives

@@ -9,5 +9,9 @@ pub mod Effect
 pub mod Run
 pub mod Log
 pub mod Verdicts
+pub mod Replay
+pub mod Matching
+pub mod Plain
 pub mod Cases
 pub mod Judging
+pub mod Replaying

@@ -81,6 +81,9 @@ impl Tally {
     }
 }
 
+// A cell number of a replay. The matching alone joins it to a recorded cell.
+pub struct ReplayCell(pub u16);
+
 // p, or p.sel
 pub enum PExp {
     PointerVariable(u8),

@@ -1,0 +1,25 @@
+-- What is proved of the rules, each file resting on those before it.
+-- Assumes nothing.
+pub mod Basics
+pub mod Words
+pub mod States
+pub mod Passed
+pub mod Sound
+pub mod Kept
+pub mod Ranges
+pub mod Tied
+pub mod Effects
+pub mod Step
+pub mod Tables
+pub mod Replayed
+pub mod Unmarked
+pub mod Logs
+pub mod Stricter
+pub mod Demands
+pub mod PaperReading
+pub mod PaperRaces
+pub mod PaperSteps
+pub mod PaperCommands
+pub mod PaperRun
+pub mod PaperAllowed
+pub mod PaperDemands

@@ -1,0 +1,135 @@
+-- What it says that a command passed its checks, part by part: every test of them passed.
+-- Assumes nothing.
+use Prim.Native.Nat.{ℕ}
+use mathlib.Core.Path.{_≡_, refl}
+use mathlib.Core.Bool.{Bool, false, true}
+use mathlib.Core.List.{List, [], _++_, _∷_}
+use native.Mathlib.Omega.{arith}
+use Rattle.fields.specs.declared.Refusal.{Refusal}
+use Rattle.fields.specs.declared.Refusal.the-variants.{AssertionFails, LiveCell, TooManyMallocs, UnsetPointer}
+use Rattle.fields.specs.Every.{Every}
+use Rattle.fields.specs.Order.{Test, inOrder, test}
+use Rattle.fields.proofs.Passing.{Passes, all-pass, every-cut, every-join}
+use Rattle.rules.specs.declared.Act.{Act}
+use Rattle.rules.specs.declared.Answer.{Answer}
+use Rattle.rules.specs.declared.Answer.the-variants.{Go, Race, Refuse}
+use Rattle.rules.specs.Words.{isUnset, isValid}
+use Rattle.rules.specs.State.{State, pointer}
+use Rattle.rules.specs.Acts.{compared, frees, gives, through, touched}
+use Rattle.rules.specs.Check.{check, checkBy, each, holds, points, roomFor, vacant, valid}
+use Rattle.theorems.proofs.Basics.{not-true, split}
+
+-- ---- tests that say something else than Go where they do not pass
+abbrev pub Stops : Test Answer → Type 0
+Stops t = t .says ≡ Go → ⊥
+
+went : (ts : List (Test Answer)) → Every Stops ts → inOrder (λ answer. answer) Go ts ≡ Go → Every Passes ts
+went [] n e = tt
+went (t ∷ ts) n e = split (t .passes)
+    (λ p. (p, went ts (n .1) (rw p at e)))
+    (λ p. absurd (n .0 (rw p at e)))
+
+race-stops : (v : ℕ) → Race v ≡ Go → ⊥
+race-stops v e = let z : _≡_ {A = ℕ} 0 1 = cc in omega arith
+
+refusal-stops : (r : Refusal) → Refuse r ≡ Go → ⊥
+refusal-stops r e = let z : _≡_ {A = ℕ} 0 1 = cc in omega arith
+
+-- ---- one test for each of a list
+abbrev pub Clear : {K : Type 0} → (K → Bool) → List K → Type 0
+Clear good l = Every (λ k. good k ≡ true) l
+
+each-stops : {K : Type 0} (good : K → Bool) (says : K → Answer) (l : List K) → ((k : K) → says k ≡ Go → ⊥) → Every Stops (each good says l)
+each-stops good says [] n = tt
+each-stops good says (k ∷ l) n = (n k, each-stops good says l n)
+
+pub each-clear : {K A : Type 0} (good : K → Bool) (says : K → A) (l : List K) → Every Passes (each good says l) → Clear good l
+each-clear good says [] e = tt
+each-clear good says (k ∷ l) e = (e .0, each-clear good says l (e .1))
+
+pub clear-each : {K A : Type 0} (good : K → Bool) (says : K → A) (l : List K) → Clear good l → Every Passes (each good says l)
+clear-each good says [] e = tt
+clear-each good says (k ∷ l) e = (e .0, clear-each good says l (e .1))
+
+pub each-same : {K A : Type 0} (good good′ : K → Bool) (says : K → A) (l : List K) → ((k : K) → good′ k ≡ good k) → each good′ says l ≡ each good says l
+each-same good good′ says [] f = refl
+each-same good good′ says (k ∷ l) f = rw (f k, each-same good good′ says l f) refl
+
+-- ---- the checks, whatever is called a race
+pub record PassedBy (races : List (Test Answer)) (a : Act) (s : State) : Type 0 where
+  pub room : Clear (roomFor s) (gives (a .change))
+  pub raceless : Every Passes races
+  pub pointing : Clear (points s) (through (a .change))
+  pub unlive : Clear (vacant s) (gives (a .change))
+  pub holding : holds s (a .guard) ≡ true
+
+-- the tests around the races, as checkBy has them
+abbrev pub rooms : Act → State → List (Test Answer)
+rooms a s = each (roomFor s) (λ c. Refuse TooManyMallocs) (gives (a .change))
+
+abbrev pub sets : Act → State → List (Test Answer)
+sets a s = each (points s) (λ p. Refuse UnsetPointer) (through (a .change))
+
+abbrev pub vacants : Act → State → List (Test Answer)
+vacants a s = each (vacant s) (λ c. Refuse LiveCell) (gives (a .change))
+
+abbrev pub guards : Act → State → List (Test Answer)
+guards a s = test (holds s (a .guard)) (Refuse AssertionFails) ∷ []
+
+pub passedBy : (races : List (Test Answer)) (a : Act) (s : State) → Every Stops races → checkBy races a s ≡ Go → PassedBy races a s
+unfolding checkBy
+passedBy races a s stops e =
+    let all = rooms a s ++ (races ++ (sets a s ++ (vacants a s ++ guards a s))) in
+    let speaking : Every Stops all =
+    every-join Stops (rooms a s) (races ++ (sets a s ++ (vacants a s ++ guards a s))) (each-stops (roomFor s) (λ c. Refuse TooManyMallocs) (gives (a .change)) (λ c. refusal-stops TooManyMallocs))
+    (every-join Stops races (sets a s ++ (vacants a s ++ guards a s)) stops
+    (every-join Stops (sets a s) (vacants a s ++ guards a s) (each-stops (points s) (λ p. Refuse UnsetPointer) (through (a .change)) (λ p. refusal-stops UnsetPointer))
+    (every-join Stops (vacants a s) (guards a s) (each-stops (vacant s) (λ c. Refuse LiveCell) (gives (a .change)) (λ c. refusal-stops LiveCell)) (refusal-stops AssertionFails, tt)))) in
+    let p = every-cut Passes (rooms a s) (races ++ (sets a s ++ (vacants a s ++ guards a s))) (went all speaking e) in
+    let q = every-cut Passes races (sets a s ++ (vacants a s ++ guards a s)) (p .1) in
+    let r = every-cut Passes (sets a s) (vacants a s ++ guards a s) (q .1) in
+    let t = every-cut Passes (vacants a s) (guards a s) (r .1) in
+    record {
+      room = each-clear (roomFor s) (λ c. Refuse TooManyMallocs) (gives (a .change)) (p .0);
+      raceless = q .0;
+      pointing = each-clear (points s) (λ p. Refuse UnsetPointer) (through (a .change)) (r .0);
+      unlive = each-clear (vacant s) (λ c. Refuse LiveCell) (gives (a .change)) (t .0);
+      holding = t .1 .0;
+    }
+
+pub passBy : (races : List (Test Answer)) (a : Act) (s : State) → PassedBy races a s → checkBy races a s ≡ Go
+unfolding checkBy
+passBy races a s p =
+    all-pass (λ answer. answer) Go (rooms a s ++ (races ++ (sets a s ++ (vacants a s ++ guards a s))))
+    (every-join Passes (rooms a s) (races ++ (sets a s ++ (vacants a s ++ guards a s))) (clear-each (roomFor s) (λ c. Refuse TooManyMallocs) (gives (a .change)) (p .room))
+    (every-join Passes races (sets a s ++ (vacants a s ++ guards a s)) (p .raceless)
+    (every-join Passes (sets a s) (vacants a s ++ guards a s) (clear-each (points s) (λ p. Refuse UnsetPointer) (through (a .change)) (p .pointing))
+    (every-join Passes (vacants a s) (guards a s) (clear-each (vacant s) (λ c. Refuse LiveCell) (gives (a .change)) (p .unlive)) (p .holding, tt)))))
+
+-- ---- the checks with marks
+abbrev pub Passed : Act → State → Type 0
+Passed a s = PassedBy (each (valid s) Race (touched a)) a s
+
+pub passed : (a : Act) (s : State) → check a s ≡ Go → Passed a s
+passed a s e = passedBy (each (valid s) Race (touched a)) a s (each-stops (valid s) Race (touched a) race-stops) e
+
+-- what is asserted on, freed or gone through is valid
+pub record Looked (a : Act) (s : State) : Type 0 where
+  pub compares : Clear (valid s) (compared (a .guard))
+  pub frees : Clear (valid s) (frees (a .change))
+  pub goes : Clear (valid s) (through (a .change))
+
+pub looked : (a : Act) (s : State) → Passed a s → Looked a s
+looked a s p =
+    let Q : ℕ → Type 0 = λ k. valid s k ≡ true in
+    let t = every-cut Q (compared (a .guard)) (frees (a .change) ++ through (a .change)) (each-clear (valid s) Race (touched a) (p .raceless)) in
+    let u = every-cut Q (frees (a .change)) (through (a .change)) (t .1) in
+    record { compares = t .0; frees = u .0; goes = u .1 }
+
+-- a variable that is gone through is valid and set
+pub record Set (s : State) (p : ℕ) : Type 0 where
+  pub valid : isValid (pointer s p) ≡ true
+  pub pointing : isUnset (pointer s p) ≡ false
+
+pub reached : (s : State) (p : ℕ) → Clear (valid s) (p ∷ []) → Clear (points s) (p ∷ []) → Set s p
+reached s p e f = record { valid = e .0; pointing = not-true (isUnset (pointer s p)) (f .0) }
