@@ -5,6 +5,9 @@ pub mod Answers
 pub mod Changing
 pub mod Steps
 pub mod Running
+pub mod Copying
+pub mod Copied
 pub mod Lending
+pub mod Replaying
 pub mod OneResult
 pub mod Fakes

@@ -4,19 +4,21 @@ use Prim.Native.Nat.{ℕ, zero, suc, _+_, _-_, _<_, _≤_}
 use borrow.Author.Tests.{leb-true}
 use lib.ListN.{drop, drop-of-length-le, length, length-drop, take}
 use lib.Seq.{drop-drop, take-all}
+use mathlib.Core.Bool.{true}
 use mathlib.Core.List.{List, [], _∷_, _++_}
 use mathlib.Core.Path.{_≡_, refl, ap, sym, _∙_}
 use native.Mathlib.Nat.{not-suc-le-zero}
 use native.Mathlib.Omega.{arith}
-use Rattle.fields.proofs.Passing.{all-passed}
+use Rattle.fields.proofs.Passing.{Passes, all-passed, every-cut}
 use Rattle.fields.specs.declared.Field.{Field}
 use Rattle.fields.specs.declared.Read.the-variants.{Got, Refused}
 use Rattle.fields.specs.declared.Refusal.{Refusal}
 use Rattle.fields.specs.declared.Refusal.the-variants.{TooManyFields}
 use Rattle.fields.specs.Checks.{valueChecks}
+use Rattle.fields.specs.Every.{Every}
 use Rattle.fields.specs.Limits.{headerBytes}
 use Rattle.fields.specs.Read.{fieldOf, framingChecks, readField, tagIn, valueIn}
-use Rattle.fields.specs.Rows.{lengthOf, rowOf}
+use Rattle.fields.specs.Rows.{isTag, lengthOf, rowOf}
 use Rattle.rules.proofs.Tallies.{counted}
 use Rattle.rules.specs.declared.Answer.{Answer}
 use Rattle.rules.specs.declared.Answer.the-variants.{Go, Race, Refuse}
@@ -34,10 +36,15 @@ use Rattle.judge.specs.declared.run.Next.the-variants.{On, Ended}
 use Rattle.judge.specs.Runs.{Onward, followed, nextAfter, runFrom}
 use Rattle.judge.specs.Steps.{Step, stateAfter, stepOf}
 
--- ---- a field that was read lies within the bytes
-got-fits : (s : List ℕ) (f : Field) → readField s ≡ Got f → headerBytes + lengthOf (f .tag) ≤ length s
+-- ---- a field that was read lies within the bytes, and it passed the checks
+pub record Passed (s : List ℕ) (f : Field) : Type 0 where
+  pub fits : headerBytes + lengthOf (f .tag) ≤ length s
+  pub known : isTag (f .tag) ≡ true
+  pub right : Every Passes (valueChecks (rowOf (f .tag)) f)
+
+pub got-passed : (s : List ℕ) (f : Field) → readField s ≡ Got f → Passed s f
 unfolding readField fieldOf
-got-fits s f e =
+got-passed s f e =
     let g = fieldOf (tagIn s) (valueIn s) in
     let p = all-passed Refused (Got g) (framingChecks s ++ valueChecks (rowOf (tagIn s)) g) (Got f) (λ r q. let z : _≡_ {A = ℕ} 0 1 = cc in omega arith) e in
     let q : Got g ≡ Got f = p .1 in
@@ -45,42 +52,46 @@ got-fits s f e =
     let tag : tagIn s ≡ f .tag = ap (λ (x : Field). x .tag) same in
     let header = leb-true 3 (length s) (p .0 .0) in
     let value = leb-true (lengthOf (tagIn s)) (length (valueIn s)) (p .0 .1 .1 .1 .0) in
-    rw (← tag) (omega (arith, length-drop 3 s))
+    record {
+      fits = rw (← tag) (omega (arith, length-drop 3 s));
+      known = rw (← tag) (p .0 .1 .0);
+      right = rw (← same) (every-cut Passes (framingChecks s) (valueChecks (rowOf (tagIn s)) g) (p .0) .1);
+    }
 
 pub run-opened : (n : ℕ) (b : List ℕ) (s : State) → runFrom n b s ≡ runBytes n b s
 unfolding runFrom
 run-opened n b s = refl
 
 -- ---- the run, by what is read at the front of the bytes
-run-got : (n : ℕ) (b : List ℕ) (s : State) (f : Field) → 0 < length b → readField b ≡ Got f
+pub run-got : (n : ℕ) (b : List ℕ) (s : State) (f : Field) → 0 < length b → readField b ≡ Got f
     → runFrom (suc n) b s ≡ next (check (actOf f) s) (s .fields) f s (runFrom n (drop (headerBytes + lengthOf (f .tag)) b) (effect (actOf f) s))
 unfolding runFrom
 run-got n [] s f some e = absurd (not-suc-le-zero some)
 run-got n (x ∷ b) s f some e = rw e
 
-run-refused : (n : ℕ) (b : List ℕ) (s : State) (r : Refusal) → 0 < length b → readField b ≡ Refused r
+pub run-refused : (n : ℕ) (b : List ℕ) (s : State) (r : Refusal) → 0 < length b → readField b ≡ Refused r
     → runFrom (suc n) b s ≡ record { verdict = RefusedAt r (s .fields); state = s }
 unfolding runFrom
 run-refused n [] s r some e = absurd (not-suc-le-zero some)
 run-refused n (x ∷ b) s r some e = rw e
 
-run-full : (b : List ℕ) (s : State) → 0 < length b → runFrom 0 b s ≡ record { verdict = RefusedAt TooManyFields (s .fields); state = s }
+pub run-full : (b : List ℕ) (s : State) → 0 < length b → runFrom 0 b s ≡ record { verdict = RefusedAt TooManyFields (s .fields); state = s }
 unfolding runFrom
 run-full [] s some = absurd (not-suc-le-zero some)
 run-full (x ∷ b) s some = refl
 
-run-none : (n : ℕ) (s : State) → runFrom n [] s ≡ record { verdict = Accepted (s .fields) (s .mallocs) (liveCount (s .status)); state = s }
+pub run-none : (n : ℕ) (s : State) → runFrom n [] s ≡ record { verdict = Accepted (s .fields) (s .mallocs) (liveCount (s .status)); state = s }
 unfolding runFrom
 run-none zero s = refl
 run-none (suc n) s = refl
 
 -- ---- one turn, at a place of the log
 module _ (l : List ℕ) (at : ℕ) (within : at < length l) where
-  some-left : 0 < length (drop at l)
+  pub some-left : 0 < length (drop at l)
   some-left = rw length-drop (omega arith)
 
   -- the part that the code reads at
-  part : take (length l - at) (drop at l) ≡ drop at l
+  pub part : take (length l - at) (drop at l) ≡ drop at l
   part = take-all (length l - at) (drop at l) (simp length-drop (omega arith))
 
   pub turn-refused : (n : ℕ) (s : State) (r : Refusal) → readField (take (length l - at) (drop at l)) ≡ Refused r
@@ -102,7 +113,7 @@ module _ (l : List ℕ) (at : ℕ) (within : at < length l) where
         (record { fields = s .fields; mallocs = s .mallocs })
         (record { fields = stateAfter k s (effect (actOf f) s) .fields; mallocs = stateAfter k s (effect (actOf f) s) .mallocs })
     onward-by Go =
-        let fits = got-fits (drop at l) f (rw part at read) in
+        let fits = got-passed (drop at l) f (rw part at read) .fits in
         let count = counted (actOf f) s in
         ((omega arith, omega (arith, length-drop at l)), (count .fields, count .mallocs))
     onward-by (Race p) = tt

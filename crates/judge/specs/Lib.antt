@@ -5,3 +5,4 @@ pub mod Answers
 pub mod Steps
 pub mod Runs
 pub mod Judges
+pub mod Replays

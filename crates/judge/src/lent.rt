@@ -7,7 +7,7 @@ ghost use Rattle.judge.specs.Judges.{Judges, LongEnough, shown};
 ghost use Rattle.judge.specs.Runs.{ranTo};
 ghost use Rattle.rules.specs.Judging.{judged, lent, longEnough};
 ghost use Rattle.rules.specs.Log.{runBytes};
-ghost use Rattle.rules.specs.State.{fresh, heapSelectors};
+ghost use Rattle.rules.specs.State.{fresh, freshBoard, freshTally, heapSelectors, stateOf};
 use super::Judged;
 use super::run::Ran;
 use super::run::run;
@@ -23,7 +23,7 @@ use rules::Heap;
 use rules::Tally;
 use rules::Verdict;
 
-fn long_enough(
+pub fn long_enough(
     pointers: &[u16],
     selectors: &[u16],
     variables: &[u32],
@@ -47,20 +47,27 @@ fn long_enough(
     Heap::CELLS <= status.len()
 }
 
-// The run from the fresh state, whatever the lists held.
+// The lists of the fresh state, whatever they held.
+pub fn refresh(selectors: &mut [u16], numbers: &mut [u32], status: &mut [u8])
+    requires { ⌜ (length (now selectors) ≡ heapSelectors) × ((length (now numbers) ≡ cells) × (length (now status) ≡ cells)) ⌝ }
+    ensures { λ _. ⌜ stateOf freshBoard freshTally (now (selectors .exit)) (now (numbers .exit)) (now (status .exit)) ≡ fresh ⌝ }
+{
+    fill_words(selectors, Heap::UNSET);
+    fill_numbers(numbers, 0);
+    fill_status(status, Heap::NEVER_USED);
+}
+
 fn run_fresh(log: &[u8], selectors: &mut [u16], numbers: &mut [u32], status: &mut [u8]) -> Ran
     requires { ⌜ length (now log) ≤ logBytes ⌝ }
     requires { ⌜ (length (now selectors) ≡ heapSelectors) × ((length (now numbers) ≡ cells) × (length (now status) ≡ cells)) ⌝ }
     ensures { λ r. ⌜ ranTo r (now (selectors .exit)) (now (numbers .exit)) (now (status .exit)) ≡ runBytes logFields (now (log .entry)) fresh ⌝ }
 {
-    fill_words(selectors, Heap::UNSET);
-    fill_numbers(numbers, 0);
-    fill_status(status, Heap::NEVER_USED);
+    refresh(selectors, numbers, status);
     run(log, selectors, numbers, status)
 }
 
 // The run over exactly the named sizes of what is lent. What lies past them stays.
-fn run_lent(
+pub fn run_lent(
     log: &[u8],
     pointers: &mut [u16],
     selectors: &mut [u16],

@@ -1,0 +1,169 @@
+-- The copy of one field, as it is written over the output, and what is left to be copied.
+-- Assumes nothing.
+use Prim.Native.Nat.{ℕ, zero, suc, _+_, _-_, _<_, _≤_}
+use borrow.Author.Tests.{le-leb, lt-ltb, ltb-true}
+use lib.Dec.{ltb}
+use lib.ListN.{drop, drop-of-length-le, length, length-append, length-drop, take, take-append-drop}
+use lib.Seq.{drop-append-add, drop-drop, length-take-le, take-at}
+use mathlib.Core.Bool.{Bool, true, false, cond}
+use mathlib.Core.List.{List, [], _∷_, _++_, append-assoc, append-nil}
+use mathlib.Core.Path.{_≡_, refl, ap, sym, _∙_}
+use native.Mathlib.Nat.{not-suc-le-zero}
+use native.Mathlib.Omega.{arith}
+use Rattle.fields.proofs.Passing.{Passes, all-pass, every-join}
+use Rattle.fields.proofs.Writing.{length-fieldBytes, refused, roomTest, wrote}
+use Rattle.fields.specs.declared.Field.{Field}
+use Rattle.fields.specs.declared.Read.the-variants.{Got, Refused}
+use Rattle.fields.specs.declared.RecordedCell.{RecordedCell}
+use Rattle.fields.specs.declared.Refusal.{Refusal}
+use Rattle.fields.specs.declared.Refusal.the-variants.{TooManyMallocs}
+use Rattle.fields.specs.declared.Written.{Written}
+use Rattle.fields.specs.Checks.{isCell, valueChecks}
+use Rattle.fields.specs.Every.{Every}
+use Rattle.fields.specs.Limits.{cells, headerBytes}
+use Rattle.fields.specs.Read.{readField}
+use Rattle.fields.specs.Rows.{isTag, lengthOf, rowOf}
+use Rattle.fields.specs.Write.{Writing, fieldBytes, writeField, writing, writingChecks}
+use Rattle.rules.proofs.Tallies.{counted}
+use Rattle.rules.specs.declared.Act.{Act}
+use Rattle.rules.specs.declared.Answer.{Answer}
+use Rattle.rules.specs.declared.Answer.the-variants.{Go, Race, Refuse}
+use Rattle.rules.specs.declared.Change.{Change}
+use Rattle.rules.specs.declared.Change.the-variants.{Stay, Allocate, Release, Move, Put}
+use Rattle.rules.specs.declared.Guard.{Guard}
+use Rattle.rules.specs.Acts.{gives}
+use Rattle.rules.specs.Check.{check, checkBy, roomFor}
+use Rattle.rules.specs.Commands.{actOf}
+use Rattle.rules.specs.Effect.{effect}
+use Rattle.rules.specs.Replay.{copyChange, copyField, nextCell, recast}
+use Rattle.rules.specs.Run.{Outcome, next}
+use Rattle.rules.specs.State.{State}
+use Rattle.judge.specs.Replays.{Carried, IsAccepted, outputFrom, replayFrom}
+use Rattle.judge.specs.Runs.{runFrom}
+use Rattle.judge.specs.Steps.{Step, stepOf}
+use Rattle.judge.proofs.Running.{got-passed, part, run-got, run-refused, some-left}
+
+-- ---- a command that goes has a malloc left for the cell that it gives out
+room-by : (b : Bool) (later : Answer) → cond b later (Refuse TooManyMallocs) ≡ Go → b ≡ true
+room-by true later e = refl
+room-by false later e = absurd (let z : _≡_ {A = ℕ} 0 1 = cc in omega arith)
+
+room-left : (g : Guard) (c : Change) (s : State) → check (record { guard = g; change = c }) s ≡ Go → Every (λ r. roomFor s r ≡ true) (gives c)
+unfolding checkBy
+room-left g Stay s e = tt
+room-left g (Allocate p c d) s e = (room-by (roomFor s c) _ e, tt)
+room-left g (Release p) s e = tt
+room-left g (Move x y) s e = tt
+room-left g (Put x v) s e = tt
+
+-- ---- so its copy passes the checks that the field passed
+cell-right : (there : Bool) (c : ℕ) → ltb c cells ≡ true → isCell there c ≡ true
+cell-right true c h = h
+cell-right false c h = refl
+
+module _ (s : State) (f : Field) (right : Every Passes (valueChecks (rowOf (f .tag)) f)) where
+  right-by : (c : Change) → Every (λ r. roomFor s r ≡ true) (gives c) → Every Passes (valueChecks (rowOf (f .tag)) (recast (copyChange s (nextCell s) c) f))
+  right-by Stay h = right
+  right-by (Allocate p c d) h = (right .0, (right .1 .0, (right .1 .1 .0, (cell-right (rowOf (f .tag) .3) (s .mallocs) (h .0), tt))))
+  right-by (Release p) h = right
+  right-by (Move x y) h = right
+  right-by (Put x v) h = right
+
+  copy-right : check (actOf f) s ≡ Go → Every Passes (valueChecks (rowOf (f .tag)) (copyField s (nextCell s) f))
+  copy-right e = right-by (actOf f .change) (room-left (actOf f .guard) (actOf f .change) s e)
+
+writes : (f : Field) (out : List ℕ) → isTag (f .tag) ≡ true → Every Passes (valueChecks (rowOf (f .tag)) f) → length (fieldBytes f) ≤ length out → writeField f out ≡ wrote f out
+unfolding writeField
+writes f out known right room =
+    all-pass (refused f out) (wrote f out) (writingChecks f (length out))
+    (known, every-join Passes (valueChecks (rowOf (f .tag)) f) (roomTest f out) right (le-leb (length (fieldBytes f)) (length out) room, tt))
+
+-- ---- bytes written at a place of an output
+module _ (out bytes : List ℕ) (at : ℕ) (room : at + length bytes ≤ length out) where
+  abbrev after : List ℕ
+  after = take at out ++ ((bytes ++ drop (length bytes) (drop at out)) ++ drop (length out - at) (drop at out))
+
+  front : length (take at out ++ bytes) ≡ at + length bytes
+  front = rw (length-append, length-take-le at out (omega arith))
+
+  apart : after ≡ (take at out ++ bytes) ++ drop (at + length bytes) out
+  apart = rw (drop-drop, drop-drop, drop-of-length-le out {i = at + (length out - at)} (omega arith), append-nil, append-assoc)
+
+  written-front : take (at + length bytes) after ≡ take at out ++ bytes
+  written-front = rw apart (take-at (take at out ++ bytes) (drop (at + length bytes) out) (at + length bytes) front)
+
+  written-rest : (end : ℕ) → at + length bytes ≤ end → drop end after ≡ drop end out
+  written-rest end past =
+      let i = end - (at + length bytes) in
+      let split : end ≡ at + length bytes + i = omega arith in
+      rw (apart, split)
+      ((rw front at (drop-append-add (take at out ++ bytes) (drop (at + length bytes) out) i)) ∙ drop-drop i (at + length bytes) out)
+
+  -- what is written is the first of what was still to be written
+  spliced : (rest : List ℕ) (end : ℕ) → at + length bytes ≤ end → take (at + length bytes) after ++ (rest ++ drop end after) ≡ take at out ++ ((bytes ++ rest) ++ drop end out)
+  spliced rest end past = rw (written-front, written-rest end past) (simp append-assoc)
+
+-- ---- the replay, by what is read at the front of the bytes
+replay-got : (n : ℕ) (b : List ℕ) (s : State) (f : Field) → 0 < length b → readField b ≡ Got f
+    → replayFrom (suc n) b s ≡ fieldBytes (copyField s (nextCell s) f) ++ replayFrom n (drop (headerBytes + lengthOf (f .tag)) b) (effect (actOf f) s)
+unfolding replayFrom
+replay-got n [] s f some e = absurd (not-suc-le-zero some)
+replay-got n (x ∷ b) s f some e = rw e
+
+-- ---- in a log that is accepted, every field is read and goes
+goes-by : (k : Answer) (n : ℕ) (f : Field) (s : State) (later : Outcome) → IsAccepted (next k n f s later .verdict) → k ≡ Go
+goes-by Go n f s later h = refl
+goes-by (Race p) n f s later h = absurd h
+goes-by (Refuse r) n f s later h = absurd h
+
+module _ (l : List ℕ) (at : ℕ) (within : at < length l) (s : State) where
+  pub copy-refused : (n : ℕ) (r : Refusal) → readField (take (length l - at) (drop at l)) ≡ Refused r → IsAccepted (runFrom (suc n) (drop at l) s .verdict) → ⊥
+  copy-refused n r e h = rw (run-refused n (drop at l) s r (some-left l at within) (rw (part l at within) at e)) at h
+
+  module _ (f : Field) (read : readField (take (length l - at) (drop at l)) ≡ Got f) (step : Step) (stepped : step ≡ stepOf (actOf f) s)
+      (out : List ℕ) (room : length l ≤ length out) (copy : Field) (copied : copy ≡ copyField s (nextCell s) f)
+      (answer : Written) (bytes : List ℕ) (put : writing answer bytes ≡ writeField copy (take (length out - at) (drop at out))) where
+    abbrev size : ℕ
+    size = headerBytes + lengthOf (f .tag)
+
+    here : readField (drop at l) ≡ Got f
+    here = rw (part l at within) at read
+
+    fits : at + size ≤ length l
+    fits = omega (arith, got-passed (drop at l) f here .fits, length-drop at l)
+
+    module _ (n : ℕ) (accepted : IsAccepted (runFrom (suc n) (drop at l) s .verdict)) where
+      ran : runFrom (suc n) (drop at l) s ≡ next (check (actOf f) s) (s .fields) f s (runFrom n (drop size (drop at l)) (effect (actOf f) s))
+      ran = run-got n (drop at l) s f (some-left l at within) here
+
+      goes : check (actOf f) s ≡ Go
+      goes = goes-by (check (actOf f) s) (s .fields) f s (runFrom n (drop size (drop at l)) (effect (actOf f) s)) (rw ran at accepted)
+
+      done : step .state ≡ effect (actOf f) s
+      unfolding stepOf
+      done = rw (stepped, goes)
+
+      laid : bytes ≡ fieldBytes copy ++ drop (length (fieldBytes copy)) (drop at out)
+      laid =
+          let p = got-passed (drop at l) f here in
+          let all : take (length out - at) (drop at out) ≡ drop at out = part out at (omega arith) in
+          let n = length-fieldBytes (copyField s (nextCell s) f) in
+          let w = writes (copyField s (nextCell s) f) (drop at out) (p .known) (copy-right s f (p .right) goes) (omega (arith, length-drop at out, length-drop at l, p .fits)) in
+          rw copied (ap (λ (x : Writing). x .output) (rw (all, copied) at put ∙ w))
+
+      pub copy-got : Carried n l at s out (at + size) (step .state) (take at out ++ (bytes ++ drop (length out - at) (drop at out)))
+      unfolding outputFrom
+      copy-got =
+          let count = counted (actOf f) s in
+          let own = fieldBytes (copyField s (nextCell s) f) in
+          let same : length own ≡ size = length-fieldBytes (copyField s (nextCell s) f) in
+          record {
+            further = omega arith;
+            within = fits;
+            fields = rw done (count .fields);
+            mallocs = rw done (count .mallocs);
+            outcome = rw (done, ← drop-drop size at l) (sym (rw goes at ran));
+            output =
+                rw (done, ← drop-drop size at l, replay-got n (drop at l) s f (some-left l at within) here, laid, copied, ← same)
+                (spliced out own at (omega (arith, fits)) (replayFrom n (drop (length own) (drop at l)) (effect (actOf f) s)) (length l) (omega (arith, fits)));
+          }

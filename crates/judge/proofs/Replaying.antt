@@ -1,0 +1,62 @@
+-- The replay of a log over what is lent, once the log is judged and, where it is accepted, copied.
+-- Assumes nothing.
+use Prim.Native.Nat.{ℕ}
+use lib.Dec.{leb}
+use lib.ListN.{drop, length}
+use lib.Seq.{drop-at}
+use mathlib.Core.Bool.{true, false}
+use mathlib.Core.List.{List, _++_}
+use mathlib.Core.Path.{_≡_, ap}
+use Rattle.fields.specs.declared.Refusal.the-variants.{BufferTooShort, LogTooLong, OutputTooShort}
+use Rattle.fields.specs.Limits.{cells, logBytes, logFields}
+use Rattle.rules.specs.declared.Verdict.{Verdict}
+use Rattle.rules.specs.declared.Verdict.the-variants.{Accepted, Refused}
+use Rattle.rules.specs.Judging.{Judged, Lent, judged, lent, longEnough}
+use Rattle.rules.specs.Log.{runBytes}
+use Rattle.rules.specs.Replaying.{outputAfter, replayLog, replayed}
+use Rattle.rules.specs.State.{fresh, heapSelectors}
+use Rattle.judge.specs.Judges.{shown}
+use Rattle.judge.specs.Replays.{Copies, IsAccepted, written}
+
+-- ---- what the second pass makes at the front of a list is what the first made there
+front-kept : (l rest front made : List ℕ) (k : ℕ) → l ≡ made ++ drop k rest → front ≡ made → length front ≡ k → front ++ drop k l ≡ l
+front-kept l rest front made k e same size = rw (e, ← same, drop-at front (drop k rest) k size)
+
+module _ (log : List ℕ) (l : Lent) (verdict : Verdict) (after : Lent) (ran : judged verdict after ≡ shown log l) where
+  pub ran-accepted : (fields mallocs live : ℕ) → verdict ≡ Accepted fields mallocs live → IsAccepted (runBytes logFields log fresh .verdict)
+  unfolding shown
+  ran-accepted fields mallocs live e = rw (← ap (λ (j : Judged). j .verdict) ran, e) tt
+
+  pub replay-as : (out out′ : List ℕ) → out′ ≡ outputAfter verdict log out → replayed verdict out′ after ≡ written log out l
+  unfolding shown written
+  replay-as out out′ e = rw e (ap (λ (j : Judged). replayed (j .verdict) (outputAfter (j .verdict) log out) (j .after)) ran)
+
+  module _ (out out′ selectors numbers status : List ℕ) (copies : Copies log out out′ selectors numbers status)
+      (selectors-size : length selectors ≡ heapSelectors) (numbers-size : length numbers ≡ cells) (status-size : length status ≡ cells) where
+    pub replay-accepted : (fields mallocs live : ℕ) → verdict ≡ Accepted fields mallocs live
+        → replayed verdict out′ (lent (after .pointers) (selectors ++ drop heapSelectors (after .selectors)) (after .variables) (numbers ++ drop cells (after .numbers)) (status ++ drop cells (after .status)) (after .tally)) ≡ written log out l
+    unfolding shown
+    replay-accepted fields mallocs live e =
+        rw (
+          front-kept (after .selectors) (l .selectors) selectors _ heapSelectors (ap (λ (j : Judged). j .after .selectors) ran) (copies .selectors) selectors-size,
+          front-kept (after .numbers) (l .numbers) numbers _ cells (ap (λ (j : Judged). j .after .numbers) ran) (copies .numbers) numbers-size,
+          front-kept (after .status) (l .status) status _ cells (ap (λ (j : Judged). j .after .status) ran) (copies .status) status-size,
+        ) (replay-as out out′ (rw e (copies .output)))
+
+-- ---- the verdicts
+module _ (log out : List ℕ) (l : Lent) where
+  pub replayed-too-long : leb (length log) logBytes ≡ false → replayed (Refused LogTooLong 0) out l ≡ replayLog log out l
+  unfolding replayLog
+  replayed-too-long h = rw h
+
+  pub replayed-too-short : leb (length log) logBytes ≡ true → longEnough l ≡ false → replayed (Refused BufferTooShort 0) out l ≡ replayLog log out l
+  unfolding replayLog
+  replayed-too-short h e = rw (h, e)
+
+  pub replayed-no-room : leb (length log) logBytes ≡ true → longEnough l ≡ true → leb (length log) (length out) ≡ false → replayed (Refused OutputTooShort 0) out l ≡ replayLog log out l
+  unfolding replayLog
+  replayed-no-room h e r = rw (h, e, r)
+
+  pub replayed-written : leb (length log) logBytes ≡ true → longEnough l ≡ true → leb (length log) (length out) ≡ true → written log out l ≡ replayLog log out l
+  unfolding replayLog written
+  replayed-written h e r = rw (h, e, r)

@@ -1,0 +1,157 @@
+-- `judge::replay::replay_lent` meets its contract.
+use Rattle.judge.proofs.Replaying.{ran-accepted, replay-accepted, replay-as}
+use Rattle.rules.specs.Judging.{lent}
+use borrow.Author.Needs.{needs}
+use lib.Seq.{length-take-le}
+use mathlib.Core.Path.{_∙_, sym}
+use native.Mathlib.Omega.{arith}
+use Rattle.judge.proofs.replay.replay_lent.Statement.{statement}
+use Rattle.judge.proofs.replay.replay_lent.Tie as tie
+
+run-lent-requires : tie.Need-run-lent-requires
+run-lent-requires c κs = search needs
+
+enum-told : tie.Need-enum-told
+enum-told c = search needs
+
+slice-relend-prefix-copy-log : tie.Need-slice-relend-prefix-copy-log
+slice-relend-prefix-copy-log c = search needs
+
+slice-aggregate-copy-log : tie.Need-slice-aggregate-copy-log
+slice-aggregate-copy-log c = sym (length-take-le 2048 (c .before .before .before .before .before .before .before .before .before .before .before .before .before .before .run-lent .last .1 .1 .0) (omega (arith, c .before .before .before .before .before .before .before .before .before .before .before .before .before .before .before .before .before .before .before .before .before .before .before .before .before .before .before .pre .1 .selectors-fit)))
+
+slice-relend-prefix-copy-log-2 : tie.Need-slice-relend-prefix-copy-log-2
+slice-relend-prefix-copy-log-2 c = search needs
+
+slice-aggregate-copy-log-2 : tie.Need-slice-aggregate-copy-log-2
+slice-aggregate-copy-log-2 c = sym (length-take-le 1024 (c .before .before .before .before .before .before .before .before .before .before .before .before .before .before .before .run-lent .last .1 .1 .1 .1 .0) (omega (arith, c .before .before .before .before .before .before .before .before .before .before .before .before .before .before .before .before .before .before .before .before .before .before .before .before .before .before .before .before .pre .1 .numbers-fit)))
+
+slice-relend-prefix-copy-log-3 : tie.Need-slice-relend-prefix-copy-log-3
+slice-relend-prefix-copy-log-3 c = search needs
+
+slice-aggregate-copy-log-3 : tie.Need-slice-aggregate-copy-log-3
+slice-aggregate-copy-log-3 c = sym (length-take-le 1024 (c .before .before .before .before .before .before .before .before .before .before .before .before .before .before .before .before .run-lent .last .1 .1 .1 .1 .1 .0) (omega (arith, c .before .before .before .before .before .before .before .before .before .before .before .before .before .before .before .before .before .before .before .before .before .before .before .before .before .before .before .before .before .pre .1 .status-fit)))
+
+copy-log-requires : tie.Need-copy-log-requires
+copy-log-requires c κs =
+    let start = c .before .before .before .before .before .before .before .before .before .before .before .before .before .before .before .before .before .before .before .before .before .before .before .before .before .before .before .before .before in
+    let ran = c .before .before .before .before .before .before .before .before .before .before .before .before .before .before .before .before .run-lent in
+    let lists = ran .last .1 in
+    let accepted = ran-accepted (start .args .log .now) _ (ran .result .verdict) _ (ran .ensures (ran .result .tally)) _ _ _ (c .before .before .before .before .enum-told .given .1) in
+    let selectors = length-take-le 2048 (lists .1 .0) (omega (arith, start .pre .1 .selectors-fit)) in
+    let numbers = length-take-le 1024 (lists .1 .1 .1 .0) (omega (arith, start .pre .1 .numbers-fit)) in
+    let status = length-take-le 1024 (lists .1 .1 .1 .1 .0) (omega (arith, start .pre .1 .status-fit)) in
+    (start .pre .0, ((selectors, (numbers, status)), accepted))
+
+enum-told-2 : tie.Need-enum-told-2
+enum-told-2 c = search needs
+
+enum-told-3 : tie.Need-enum-told-3
+enum-told-3 c = search needs
+
+same-length : tie.Need-same-length
+same-length c = search needs
+
+same-length-2 : tie.Need-same-length-2
+same-length-2 c = search needs
+
+same-length-3 : tie.Need-same-length-3
+same-length-3 c = search needs
+
+same-length-4 : tie.Need-same-length-4
+same-length-4 c = search needs
+
+same-length-5 : tie.Need-same-length-5
+same-length-5 c = search needs
+
+same-length-6 : tie.Need-same-length-6
+same-length-6 c = search needs
+
+returns : tie.Need-returns
+returns c =
+    let start = c .before .before .before .before .before .before .before .before .before .before .before .before .before .before .before .before .before .before .before .before .before .before .before .before .before .before .before .before .before .before .before .before .before .before .before .before .before .before in
+    let a = start .args in
+    let ran = c .before .before .before .before .before .before .before .before .before .before .before .before .before .before .before .before .before .before .before .before .before .before .before .before .before .run-lent in
+    let lists = ran .last .1 in
+    let after = lent (lists .0) (lists .1 .0) (lists .1 .1 .0) (lists .1 .1 .1 .0) (lists .1 .1 .1 .1 .0) (ran .result .tally) in
+    let selectors = c .before .before .before .before .before .selectors2 .given .0 ∙ length-take-le 2048 (lists .1 .0) (omega (arith, start .pre .1 .selectors-fit)) in
+    let numbers = c .before .before .before .numbers2 .given .0 ∙ length-take-le 1024 (lists .1 .1 .1 .0) (omega (arith, start .pre .1 .numbers-fit)) in
+    let status = c .before .status2 .given .0 ∙ length-take-le 1024 (lists .1 .1 .1 .1 .0) (omega (arith, start .pre .1 .status-fit)) in
+    λ tally. replay-accepted (a .log .now) _ (ran .result .verdict) after (ran .ensures tally) (a .out .now) _ _ _ _ (c .before .before .before .before .before .before .before .before .copy-log .ensures) selectors numbers status _ _ _ (c .before .before .before .before .before .before .before .before .before .before .before .before .before .enum-told .given .1)
+
+same-length-7 : tie.Need-same-length-7
+same-length-7 c = search needs
+
+same-length-8 : tie.Need-same-length-8
+same-length-8 c = search needs
+
+same-length-9 : tie.Need-same-length-9
+same-length-9 c = search needs
+
+same-length-10 : tie.Need-same-length-10
+same-length-10 c = search needs
+
+same-length-11 : tie.Need-same-length-11
+same-length-11 c = search needs
+
+returns-2 : tie.Need-returns-2
+returns-2 c =
+    let a = c .before .before .before .before .before .before .before .before .before .before .before .before .before .before .before .before .before .before .before .before .before .before .before .before .before .args in
+    let ran = c .before .before .before .before .before .before .before .before .before .before .before .before .run-lent in
+    λ tally. replay-as (a .log .now) _ (ran .result .verdict) _ (ran .ensures tally) (a .out .now) (a .out .now) (rw (c .enum-told2 .given .1))
+
+same-length-12 : tie.Need-same-length-12
+same-length-12 c = search needs
+
+same-length-13 : tie.Need-same-length-13
+same-length-13 c = search needs
+
+same-length-14 : tie.Need-same-length-14
+same-length-14 c = search needs
+
+same-length-15 : tie.Need-same-length-15
+same-length-15 c = search needs
+
+same-length-16 : tie.Need-same-length-16
+same-length-16 c = search needs
+
+returns-3 : tie.Need-returns-3
+returns-3 c =
+    let a = c .before .before .before .before .before .before .before .before .before .before .before .before .before .before .before .before .before .before .before .before .before .before .before .before .before .args in
+    let ran = c .before .before .before .before .before .before .before .before .before .before .before .before .run-lent in
+    λ tally. replay-as (a .log .now) _ (ran .result .verdict) _ (ran .ensures tally) (a .out .now) (a .out .now) (rw (c .enum-told3 .given .1))
+
+pub replay-lent-spec : {M : Type 1} → statement M
+replay-lent-spec =
+    tie.close
+    (tie.spec
+    run-lent-requires
+    enum-told
+    slice-relend-prefix-copy-log
+    slice-aggregate-copy-log
+    slice-relend-prefix-copy-log-2
+    slice-aggregate-copy-log-2
+    slice-relend-prefix-copy-log-3
+    slice-aggregate-copy-log-3
+    copy-log-requires
+    enum-told-2
+    enum-told-3
+    same-length
+    same-length-2
+    same-length-3
+    same-length-4
+    same-length-5
+    same-length-6
+    returns
+    same-length-7
+    same-length-8
+    same-length-9
+    same-length-10
+    same-length-11
+    returns-2
+    same-length-12
+    same-length-13
+    same-length-14
+    same-length-15
+    same-length-16
+    returns-3)

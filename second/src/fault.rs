@@ -1,0 +1,29 @@
+//! Known faults, planted on request so that a comparison can be seen to fail.
+//! They are document 01's plausible wrong turns, and the replay that copies.
+
+#[derive(Clone, Copy, PartialEq, Eq, Debug)]
+pub enum Fault {
+    /// Only whether the cell is live at the moment is tested.
+    LiveNow,
+    /// A reused cell's selectors are cleared.
+    ClearedSelectors,
+    /// The freed cell's own selectors are forgotten where unset.
+    UnsetSelectors,
+    /// Every copy of an invalid word is called a race.
+    CopyRaces,
+    /// The replay copies the log.
+    ReplayCopies,
+}
+
+pub const FAULTS: [(&str, Fault); 5] = [
+    ("live_now", Fault::LiveNow),
+    ("cleared_selectors", Fault::ClearedSelectors),
+    ("unset_selectors", Fault::UnsetSelectors),
+    ("copy_races", Fault::CopyRaces),
+    ("replay_copies", Fault::ReplayCopies),
+];
+
+pub fn fault_named(name: &str) -> Option<Fault> {
+    let found = FAULTS.iter().find(|(known, _)| *known == name);
+    found.map(|&(_, fault)| fault)
+}

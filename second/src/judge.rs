@@ -1,0 +1,317 @@
+//! The rules: what stops a field, what it does, and the run over a log.
+
+use crate::fault::Fault;
+use crate::field::{self, Field, Slot, Slot::*, *};
+use crate::heap::*;
+use crate::refusal::*;
+use std::fmt;
+
+pub const MAX_LOG_BYTES: usize = 45_056;
+pub const MAX_FIELDS: usize = 4096;
+pub const MAX_MALLOCS: usize = 1024;
+
+/// What was done so far.
+#[derive(Clone, Copy, PartialEq, Eq, Debug, Default)]
+pub struct Tally {
+    pub fields: usize,
+    pub mallocs: usize,
+}
+
+#[derive(Clone, Copy, PartialEq, Eq, Debug)]
+pub enum Verdict {
+    Accepted {
+        fields: usize,
+        mallocs: usize,
+        live: usize,
+    },
+    Race {
+        field: usize,
+        thread: u32,
+        variable: u32,
+    },
+    Refused {
+        number: u8,
+        field: usize,
+    },
+}
+
+/// The line the program prints, without its newline.
+impl fmt::Display for Verdict {
+    fn fmt(&self, out: &mut fmt::Formatter) -> fmt::Result {
+        match self {
+            Verdict::Accepted {
+                fields,
+                mallocs,
+                live,
+            } => write!(out, "accepted {fields} {mallocs} {live}"),
+            Verdict::Race {
+                field,
+                thread,
+                variable,
+            } => write!(out, "race {field} {thread} {variable}"),
+            Verdict::Refused { number, field } => write!(out, "refused {number} {field}"),
+        }
+    }
+}
+
+impl Verdict {
+    pub fn is_accepted(&self) -> bool {
+        matches!(self, Verdict::Accepted { .. })
+    }
+
+    pub fn refused_outright(number: u8) -> Verdict {
+        Verdict::Refused { number, field: 0 }
+    }
+}
+
+/// The pointers whose validity a command needs, in the order looked at.
+pub fn looked_at(tag: u8) -> &'static [Slot] {
+    match tag {
+        LOAD => &[Q],
+        FREE | STORE | GET_DATA | SET_DATA => &[P],
+        SAME_CELL | OTHER_CELL => &[P, Q],
+        _ => &[],
+    }
+}
+
+/// The pointer a command goes through.
+pub fn gone_through(tag: u8) -> Option<Slot> {
+    match tag {
+        LOAD => Some(Q),
+        STORE | GET_DATA | SET_DATA => Some(P),
+        _ => None,
+    }
+}
+
+/// Hands out the fields of a log one after the other, with checks 3 to 10.
+pub struct Cursor<'log> {
+    rest: &'log [u8],
+}
+
+impl<'log> Cursor<'log> {
+    pub fn new(log: &'log [u8]) -> Cursor<'log> {
+        Cursor { rest: log }
+    }
+
+    /// The next field after `done` fields, `None` at the end of the log.
+    pub fn next_field(&mut self, done: usize) -> Result<Option<Field>, Verdict> {
+        let refused = |number| Verdict::Refused {
+            number,
+            field: done,
+        };
+        if self.rest.is_empty() {
+            return Ok(None);
+        }
+        if done >= MAX_FIELDS {
+            return Err(refused(TOO_MANY_FIELDS));
+        }
+        let field = field::read(self.rest).map_err(refused)?;
+        self.rest = &self.rest[field.size()..];
+        Ok(Some(field))
+    }
+
+    /// How many bytes are still to come.
+    pub fn left(&self) -> usize {
+        self.rest.len()
+    }
+}
+
+/// The judge, right or with one known fault.
+#[derive(Clone, Copy, Debug, Default)]
+pub struct Judge {
+    pub fault: Option<Fault>,
+}
+
+impl Judge {
+    /// Judges a whole log and leaves the heap and tally before the stop.
+    pub fn run(&self, log: &[u8], heap: &mut Heap, tally: &mut Tally) -> Verdict {
+        if let Some(number) = outright_refusal(log, heap) {
+            return Verdict::refused_outright(number);
+        }
+        heap.reset();
+        *tally = Tally::default();
+        match self.run_fields(log, heap, tally) {
+            Ok(()) => accepted(heap, tally),
+            Err(stop) => stop,
+        }
+    }
+
+    fn run_fields(&self, log: &[u8], heap: &mut Heap, tally: &mut Tally) -> Result<(), Verdict> {
+        let mut cursor = Cursor::new(log);
+        while let Some(field) = cursor.next_field(tally.fields)? {
+            self.step(&field, heap, tally)?;
+        }
+        Ok(())
+    }
+
+    /// One field already read: checks 11 to 14 and the race, then its effect.
+    pub fn step(&self, field: &Field, heap: &mut Heap, tally: &mut Tally) -> Result<(), Verdict> {
+        if let Some(stop) = self.stop(field, heap, tally) {
+            return Err(stop);
+        }
+        self.apply(field, heap);
+        tally.fields += 1;
+        tally.mallocs += usize::from(field.tag == MALLOC);
+        Ok(())
+    }
+
+    /// What stops the field in this state, in the order 11, race, 12, 13, 14.
+    pub fn stop(&self, field: &Field, heap: &Heap, tally: &Tally) -> Option<Verdict> {
+        let refused = |number| Verdict::Refused {
+            number,
+            field: tally.fields,
+        };
+        if field.tag == MALLOC && tally.mallocs >= MAX_MALLOCS {
+            return Some(refused(TOO_MANY_MALLOCS));
+        }
+        if let Some(variable) = self.racing_variable(field, heap) {
+            return Some(Verdict::Race {
+                field: tally.fields,
+                thread: field[Thread],
+                variable,
+            });
+        }
+        let unset = |slot: Slot| cell_of(heap.pointers[field.at(slot)]).is_none();
+        if gone_through(field.tag).map_or(false, unset) {
+            return Some(refused(UNSET_POINTER));
+        }
+        if field.tag == MALLOC && heap.statuses[field.at(Cell)] == LIVE {
+            return Some(refused(CELL_IS_LIVE));
+        }
+        if !assertion_holds(field, heap) {
+            return Some(refused(ASSERTION_FAILS));
+        }
+        None
+    }
+
+    fn racing_variable(&self, field: &Field, heap: &Heap) -> Option<u32> {
+        let word = |slot: Slot| heap.pointers[field.at(slot)];
+        let mut slots = looked_at(field.tag).iter();
+        let racing = slots.find(|&&slot| self.races(word(slot), heap));
+        match racing {
+            Some(&slot) => Some(field[slot]),
+            None if self.fault == Some(Fault::CopyRaces) => racing_copy(field, heap),
+            None => None,
+        }
+    }
+
+    fn races(&self, word: u16, heap: &Heap) -> bool {
+        match self.fault {
+            Some(Fault::LiveNow) => cell_of(word).map_or(false, |cell| heap.statuses[cell] != LIVE),
+            _ => !is_valid(word),
+        }
+    }
+
+    fn apply(&self, field: &Field, heap: &mut Heap) {
+        let (p, q, x) = (field.at(P), field.at(Q), field.at(X));
+        match field.tag {
+            MALLOC => self.malloc(field, heap),
+            FREE => self.free(p, heap),
+            COPY => heap.pointers[p] = heap.pointers[q],
+            LOAD => heap.pointers[p] = heap.selectors[selector_through(field, Q, heap)],
+            STORE => {
+                let place = selector_through(field, P, heap);
+                heap.selectors[place] = heap.pointers[q];
+            }
+            GET_DATA => heap.data_variables[x] = heap.cell_data[cell_through(field, P, heap)],
+            SET_DATA => {
+                let cell = cell_through(field, P, heap);
+                heap.cell_data[cell] = heap.data_variables[x];
+            }
+            CONSTANT => heap.data_variables[x] = field[Number],
+            SUM => {
+                let (y, z) = (field.at(Y), field.at(Z));
+                // Version counters wrap, so the sum is modulo 2 to the 32nd.
+                heap.data_variables[x] =
+                    heap.data_variables[y].wrapping_add(heap.data_variables[z]);
+            }
+            _ => {}
+        }
+    }
+
+    fn malloc(&self, field: &Field, heap: &mut Heap) {
+        let cell = field.at(Cell);
+        let first_use = heap.statuses[cell] == NEVER_USED;
+        if first_use {
+            heap.cell_data[cell] = field[Number];
+        }
+        if first_use || self.fault == Some(Fault::ClearedSelectors) {
+            heap.selectors[selector_place(cell, 0)] = UNSET;
+            heap.selectors[selector_place(cell, 1)] = UNSET;
+        }
+        heap.statuses[cell] = LIVE;
+        heap.pointers[field.at(P)] = cell as u16;
+    }
+
+    /// The pointer is valid here, or the field would have been a race.
+    fn free(&self, pointer: usize, heap: &mut Heap) {
+        let cell = match cell_of(heap.pointers[pointer]) {
+            Some(cell) => cell,
+            None => return,
+        };
+        heap.statuses[cell] = FREED;
+        heap.invalidate_words_at(cell);
+        for selector in 0..2 {
+            let word = &mut heap.selectors[selector_place(cell, selector)];
+            let forgotten = self.fault == Some(Fault::UnsetSelectors) && cell_of(*word).is_none();
+            if !forgotten {
+                *word |= INVALID;
+            }
+        }
+    }
+}
+
+/// Refusals 1 and 2, which leave everything untouched.
+pub fn outright_refusal(log: &[u8], heap: &Heap) -> Option<u8> {
+    if log.len() > MAX_LOG_BYTES {
+        Some(LOG_TOO_LONG)
+    } else if !heap.has_room() {
+        Some(HEAP_TOO_SHORT)
+    } else {
+        None
+    }
+}
+
+pub fn accepted(heap: &Heap, tally: &Tally) -> Verdict {
+    Verdict::Accepted {
+        fields: tally.fields,
+        mallocs: tally.mallocs,
+        live: heap.live_cells(),
+    }
+}
+
+/// The cell behind a pointer that a command goes through. Refusal 12 came
+/// before, so the word is set.
+fn cell_through(field: &Field, slot: Slot, heap: &Heap) -> usize {
+    cell_of(heap.pointers[field.at(slot)]).expect("an unset pointer is refused before")
+}
+
+fn selector_through(field: &Field, slot: Slot, heap: &Heap) -> usize {
+    selector_place(cell_through(field, slot, heap), field.at(Sel))
+}
+
+/// Fault `copy_races`: the variable named is the one the word comes through.
+fn racing_copy(field: &Field, heap: &Heap) -> Option<u32> {
+    let through = heap.pointers[field.at(Q)];
+    let copied = match field.tag {
+        COPY | STORE => through,
+        LOAD => heap.selectors[selector_place(cell_of(through)?, field.at(Sel))],
+        _ => return None,
+    };
+    (!is_valid(copied)).then_some(field[Q])
+}
+
+fn assertion_holds(field: &Field, heap: &Heap) -> bool {
+    let cell = |slot: Slot| cell_of(heap.pointers[field.at(slot)]);
+    let number = |slot: Slot| heap.data_variables[field.at(slot)];
+    match field.tag {
+        SAME_CELL | OTHER_CELL => match (cell(P), cell(Q)) {
+            (Some(p), Some(q)) => (p == q) == (field.tag == SAME_CELL),
+            // Source 004: with an unset side both = and ≠ pass.
+            _ => true,
+        },
+        SAME_NUMBER => number(X) == number(Y),
+        OTHER_NUMBER => number(X) != number(Y),
+        _ => true,
+    }
+}
