@@ -1,9 +1,9 @@
 -- The copy of one field, as it is written over the output, and what is left to be copied.
 -- Assumes nothing.
-use Prim.Native.Nat.{ℕ, zero, suc, _+_, _-_, _<_, _≤_}
-use borrow.Author.Tests.{le-leb, lt-ltb, ltb-true}
+use Prim.Native.Nat.{ℕ, suc, _+_, _-_, _<_, _≤_}
+use borrow.Author.Tests.{le-leb}
 use lib.Dec.{ltb}
-use lib.ListN.{drop, drop-of-length-le, length, length-append, length-drop, take, take-append-drop}
+use lib.ListN.{drop, drop-of-length-le, length, length-append, length-drop, take}
 use lib.Seq.{drop-append-add, drop-drop, length-take-le, take-at}
 use mathlib.Core.Bool.{Bool, true, false, cond}
 use mathlib.Core.List.{List, [], _∷_, _++_, append-assoc, append-nil}
@@ -14,7 +14,6 @@ use Rattle.fields.proofs.Passing.{Passes, all-pass, every-join}
 use Rattle.fields.proofs.Writing.{length-fieldBytes, refused, roomTest, wrote}
 use Rattle.fields.specs.declared.Field.{Field}
 use Rattle.fields.specs.declared.Read.the-variants.{Got, Refused}
-use Rattle.fields.specs.declared.RecordedCell.{RecordedCell}
 use Rattle.fields.specs.declared.Refusal.{Refusal}
 use Rattle.fields.specs.declared.Refusal.the-variants.{TooManyMallocs}
 use Rattle.fields.specs.declared.Written.{Written}
@@ -25,7 +24,6 @@ use Rattle.fields.specs.Read.{readField}
 use Rattle.fields.specs.Rows.{isTag, lengthOf, rowOf}
 use Rattle.fields.specs.Write.{Writing, fieldBytes, writeField, writing, writingChecks}
 use Rattle.rules.proofs.Tallies.{counted}
-use Rattle.rules.specs.declared.Act.{Act}
 use Rattle.rules.specs.declared.Answer.{Answer}
 use Rattle.rules.specs.declared.Answer.the-variants.{Go, Race, Refuse}
 use Rattle.rules.specs.declared.Change.{Change}

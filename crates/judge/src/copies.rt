@@ -72,8 +72,9 @@ fn copy_of(field: Field, next: ReplayCell, numbers: &[u32], status: &[u8]) -> Fi
     }
 }
 
-// One field's copy, written where the field stands in the log, and the recording taken past the field. What is said of a log
-// that is accepted holds however many fields may follow.
+// One field's copy, written where the field stands in the log, and the recording taken past the field. A field that allocates
+// nothing is its own copy, so its bytes are the log's. In an accepted log every copy can be written and every field goes, so the
+// answers to both are not looked at; what is said of one holds however many fields may follow.
 fn copy_at(
     log: &[u8],
     at: usize,
