@@ -1,7 +1,7 @@
 #!/usr/bin/env python3
 """cases.py: the log cases of docs/01-scope.md, as files of examples/ with their verdicts.
 
-    cases.py          compares examples/ with what is made, then judges every example by ./thawhazel
+    cases.py          compares examples/ with what is made, then judges and replays every example by ./thawhazel
     cases.py --write  stores the examples
 
 The fields and verdicts below are typed from document 01's table "Log cases to settle"; nothing comes from the program.
@@ -75,6 +75,29 @@ def judged(log):
     return done.stdout.decode()
 
 
+# the replays that document 01's cases tell of: the k-th malloc names cell k; L's second starts with 7, which its cell held
+REPLAYS = {
+    "B": malloc(0, 0, 7) + free(0),
+    "E": malloc(0, 0, 0) + malloc(1, 1, 0) + field(5, 0, 0, 0, 1) + free(0) + malloc(0, 2, 0) + field(4, 0, 16, 0, 0),
+    "L": malloc(0, 0, 7) + free(0) + malloc(0, 1, 7) + field(6, 0, 0, 0),
+    "R": malloc(0, 0, 0),
+}
+
+
+def replayed(log):
+    done = subprocess.run([ROOT + "/thawhazel", "replay"], input=log, stdout=subprocess.PIPE, stderr=subprocess.PIPE, check=True)
+    return done.stdout, done.stderr.decode()
+
+
+def check_replay(name, log, verdict):
+    replay, said = replayed(log)
+    wanted = REPLAYS.get(name, log) if verdict.startswith("accepted") else b""
+    if said != verdict + "\n" or replay != wanted:
+        sys.exit(f"the replay of {name}: {said!r}, {replay.hex()}, and not {wanted.hex()}")
+    if wanted and judged(replay) != verdict + "\n":
+        sys.exit(f"the replay of {name} is judged {judged(replay)!r}")
+
+
 def more_logs():
     """Other bad input: any byte string at all gets exactly one line."""
     yield bytes(60000), "refused 1 0"
@@ -101,7 +124,9 @@ def main():
         line = judged(log)
         if line != verdict + "\n":
             sys.exit(f"a log of {len(log)} bytes, {log[:40].hex()}..: {line!r}, and not {verdict!r}")
-    print(f"{len(logs)} logs judged as document 01 says")
+    for name, log, verdict in CASES:
+        check_replay(name, log, verdict)
+    print(f"{len(logs)} logs judged and {len(CASES)} replayed as document 01 says")
 
 
 main()
