@@ -1,15 +1,9 @@
 // The lists of the board and the heap, read and stored as the rules say. Every function is total, as the definitions are: what
 // is read past a list's end is unset, 0 or never used, and what is stored there is lost.
-mod board;
 mod cells;
 mod lists;
 mod words;
 
-pub use board::pointer_at;
-pub use board::set_pointer;
-pub use board::set_variable;
-pub use board::sweep_pointers;
-pub use board::variable_at;
 pub use cells::invalidate_own;
 pub use cells::live_count;
 pub use cells::sweep;

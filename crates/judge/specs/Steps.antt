@@ -5,8 +5,9 @@ use mathlib.Core.List.{List}
 use Rattle.rules.specs.declared.Act.{Act}
 use Rattle.rules.specs.declared.Answer.{Answer}
 use Rattle.rules.specs.declared.Answer.the-variants.{Go, Race, Refuse}
+use Rattle.rules.specs.declared.Change.{Change}
 use Rattle.rules.specs.Check.{check}
-use Rattle.rules.specs.Effect.{effect}
+use Rattle.rules.specs.Effect.{apply, countField, effect}
 use Rattle.rules.specs.State.{State, stateOf}
 use Rattle.judge.specs.declared.step.Stepped.{Stepped}
 
@@ -18,6 +19,10 @@ abbrev pub stateAfter : Answer → State → State → State
 stateAfter Go before after = after
 stateAfter (Race p) before after = before
 stateAfter (Refuse r) before after = before
+
+-- the state after a command with this change, of which this is the answer
+abbrev pub changedBy : Answer → Change → State → State
+changedBy answer change s = stateAfter answer s (countField (apply change s))
 
 unfoldable pub stepOf : Act → State → Step
 stepOf a s = record { answer = check a s; state = stateAfter (check a s) s (effect a s) }

@@ -3,6 +3,7 @@ ghost use mathlib.Core.Bool.{cond};
 ghost use mathlib.Core.List.{List};
 ghost use mathlib.Core.Path.{_≡_};
 ghost use Prim.Native.Nat.{ℕ};
+ghost use Rattle.heap.specs.Boards.{boardOf};
 ghost use Rattle.judge.specs.Answers.{first, racesIn, roomIn, unsetIn, vacantIn};
 ghost use Rattle.judge.specs.Looks.{cellIn, lookIn, looksIn};
 ghost use Rattle.rules.specs.Check.{asWanted, check, holdsIn, sameAsWanted};
@@ -19,12 +20,11 @@ use fields::Refusal;
 use heap::cell_of;
 use heap::is_unset;
 use heap::is_valid;
-use heap::pointer_at;
+use heap::number_at;
 use heap::status_at;
-use heap::variable_at;
+use heap::word_at;
 use rules::Act;
 use rules::Answer;
-use rules::Board;
 use rules::Guard;
 use rules::Heap;
 use rules::Tally;
@@ -54,13 +54,13 @@ fn check_room(given: Given, mallocs: u32) -> Answer
     }
 }
 
-fn race_at(board: Board, look: Look) -> Answer
-    ensures { λ r. ⌜ r ≡ racesIn (board .pointers) (lookIn look) ⌝ }
+fn race_at(pointers: &[u16], look: Look) -> Answer
+    ensures { λ r. ⌜ r ≡ racesIn (now (pointers .entry)) (lookIn look) ⌝ }
 {
     match look {
         Look::Nowhere => Answer::Go,
         Look::At(p) => {
-            if is_valid(pointer_at(board, p as usize)) {
+            if is_valid(word_at(pointers, p as usize)) {
                 return Answer::Go;
             }
             Answer::Race(p)
@@ -68,21 +68,21 @@ fn race_at(board: Board, look: Look) -> Answer
     }
 }
 
-fn check_races(board: Board, looks: Looks) -> Answer
-    ensures { λ r. ⌜ r ≡ racesIn (board .pointers) (looksIn looks) ⌝ }
+fn check_races(pointers: &[u16], looks: Looks) -> Answer
+    ensures { λ r. ⌜ r ≡ racesIn (now (pointers .entry)) (looksIn looks) ⌝ }
 {
     let first = looks.first;
     let second = looks.second;
-    first_of(race_at(board, first), race_at(board, second))
+    first_of(race_at(pointers, first), race_at(pointers, second))
 }
 
-fn unset_at(board: Board, look: Look) -> Answer
-    ensures { λ r. ⌜ r ≡ unsetIn (board .pointers) (lookIn look) ⌝ }
+fn unset_at(pointers: &[u16], look: Look) -> Answer
+    ensures { λ r. ⌜ r ≡ unsetIn (now (pointers .entry)) (lookIn look) ⌝ }
 {
     match look {
         Look::Nowhere => Answer::Go,
         Look::At(p) => {
-            if is_unset(pointer_at(board, p as usize)) {
+            if is_unset(word_at(pointers, p as usize)) {
                 return Answer::Refuse(Refusal::UnsetPointer);
             }
             Answer::Go
@@ -91,12 +91,12 @@ fn unset_at(board: Board, look: Look) -> Answer
 }
 
 // 12: the pointers gone through point to cells.
-fn check_unset(board: Board, looks: Looks) -> Answer
-    ensures { λ r. ⌜ r ≡ unsetIn (board .pointers) (looksIn looks) ⌝ }
+fn check_unset(pointers: &[u16], looks: Looks) -> Answer
+    ensures { λ r. ⌜ r ≡ unsetIn (now (pointers .entry)) (looksIn looks) ⌝ }
 {
     let first = looks.first;
     let second = looks.second;
-    first_of(unset_at(board, first), unset_at(board, second))
+    first_of(unset_at(pointers, first), unset_at(pointers, second))
 }
 
 // 13: the cell is not live.
@@ -136,48 +136,54 @@ fn same_as_wanted(wanted: bool, v: u16, w: u16) -> bool
     as_wanted(wanted, cell_of(v) == cell_of(w))
 }
 
-fn holds(board: Board, guard: Guard) -> bool
-    ensures { λ r. ⌜ r ≡ holdsIn (board .pointers) (board .variables) guard ⌝ }
+fn holds<'a>(pointers: &'a [u16], variables: &'a [u32], guard: Guard) -> bool
+    ensures { λ r. ⌜ r ≡ holdsIn (now (pointers .entry)) (now (variables .entry)) guard ⌝ }
 {
     match guard {
         Guard::Always => true,
         Guard::Same(wanted, p, q) => same_as_wanted(
             wanted,
-            pointer_at(board, p as usize),
-            pointer_at(board, q as usize),
+            word_at(pointers, p as usize),
+            word_at(pointers, q as usize),
         ),
         Guard::Equal(wanted, x, y) => as_wanted(
             wanted,
-            variable_at(board, x as usize) == variable_at(board, y as usize),
+            number_at(variables, x as usize) == number_at(variables, y as usize),
         ),
     }
 }
 
 // 14: the assertion holds.
-fn check_guard(board: Board, guard: Guard) -> Answer
-    ensures { λ r. ⌜ r ≡ cond (holdsIn (board .pointers) (board .variables) guard) Answer.Go (Answer.Refuse Refusal.AssertionFails) ⌝ }
+fn check_guard<'a>(pointers: &'a [u16], variables: &'a [u32], guard: Guard) -> Answer
+    ensures { λ r. ⌜ r ≡ cond (holdsIn (now (pointers .entry)) (now (variables .entry)) guard) Answer.Go (Answer.Refuse Refusal.AssertionFails) ⌝ }
 {
-    if holds(board, guard) {
+    if holds(pointers, variables, guard) {
         return Answer::Go;
     }
     Answer::Refuse(Refusal::AssertionFails)
 }
 
 // All the checks in their order. None reads selectors or numbers, so what is said holds whatever these are.
-pub fn check_act(act: Act, board: Board, tally: Tally, status: &[u8]) -> Answer
-    ensures { λ r. ⌜ ((selectors numbers : List ℕ) → r ≡ check act (stateOf board tally selectors numbers (now (status .entry)))) ⌝ }
+pub fn check_act<'a>(
+    act: Act,
+    pointers: &'a [u16],
+    variables: &'a [u32],
+    tally: Tally,
+    status: &[u8],
+) -> Answer
+    ensures { λ r. ⌜ ((selectors numbers : List ℕ) → r ≡ check act (stateOf (boardOf (now (pointers .entry)) (now (variables .entry))) tally selectors numbers (now (status .entry)))) ⌝ }
 {
     let guard = act.guard;
     let change = act.change;
     let given = gives(change);
     let passed = through(change);
     let room = check_room(given, tally.mallocs);
-    let asserted = check_races(board, compared(guard));
-    let freed = check_races(board, frees(change));
-    let races = first_of(asserted, first_of(freed, check_races(board, passed)));
-    let unset = check_unset(board, passed);
+    let asserted = check_races(pointers, compared(guard));
+    let freed = check_races(pointers, frees(change));
+    let races = first_of(asserted, first_of(freed, check_races(pointers, passed)));
+    let unset = check_unset(pointers, passed);
     let vacant = check_vacant(given, status);
-    let holding = check_guard(board, guard);
+    let holding = check_guard(pointers, variables, guard);
     first_of(
         room,
         first_of(races, first_of(unset, first_of(vacant, holding))),

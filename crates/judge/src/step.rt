@@ -2,7 +2,8 @@
 ghost use mathlib.Core.Path.{_≡_};
 ghost use Prim.Native.Nat.{_+_, _≤_};
 ghost use Rattle.fields.specs.Limits.{logFields};
-ghost use Rattle.judge.specs.Steps.{stepOf, stepped};
+ghost use Rattle.heap.specs.Boards.{boardOf};
+ghost use Rattle.judge.specs.Steps.{changedBy, stepOf, stepped};
 ghost use Rattle.rules.specs.Commands.{actOf};
 ghost use Rattle.rules.specs.State.{stateOf};
 use super::acts::act_of;
@@ -11,6 +12,7 @@ use super::effects::apply_change;
 use fields::Field;
 use rules::Answer;
 use rules::Board;
+use rules::Change;
 use rules::Tally;
 
 pub struct Stepped {
@@ -29,7 +31,40 @@ fn count_field(tally: Tally) -> Tally
     }
 }
 
-// What is asked keeps the tally's sums within their type.
+// The change, and the field counted, where the answer lets it go. A stop leaves all as it was.
+fn follow(
+    answer: Answer,
+    change: Change,
+    tally: Tally,
+    pointers: &mut [u16],
+    variables: &mut [u32],
+    selectors: &mut [u16],
+    numbers: &mut [u32],
+    status: &mut [u8],
+) -> Tally
+    requires { ⌜ (tally .fields ≤ logFields) × (tally .mallocs ≤ logFields) ⌝ }
+    ensures { λ r. ⌜ stateOf (boardOf (now (pointers .exit)) (now (variables .exit))) r (now (selectors .exit)) (now (numbers .exit)) (now (status .exit)) ≡ changedBy answer change (stateOf (boardOf (now (pointers .entry)) (now (variables .entry))) tally (now (selectors .entry)) (now (numbers .entry)) (now (status .entry))) ⌝ }
+{
+    match answer {
+        Answer::Go => {
+            let count = apply_change(
+                change,
+                tally,
+                pointers,
+                variables,
+                selectors,
+                numbers,
+                status,
+            );
+            count_field(count)
+        }
+        Answer::Race(_) => tally,
+        Answer::Refuse(_) => tally,
+    }
+}
+
+// What is asked keeps the tally's sums within their type. The board is taken apart once: the checks read the two arrays, the change
+// is made in them, and they are handed back as the board after the step.
 pub fn step(
     field: Field,
     board: Board,
@@ -42,28 +77,27 @@ pub fn step(
     ensures { λ r. ⌜ stepped r (now (selectors .exit)) (now (numbers .exit)) (now (status .exit)) ≡ stepOf (actOf field) (stateOf board tally (now (selectors .entry)) (now (numbers .entry)) (now (status .entry))) ⌝ }
 {
     let act = act_of(field);
-    let answer = check_act(act, board, tally, status);
-    match answer {
-        Answer::Go => {
-            let change = act.change;
-            let moved = apply_change(change, board, tally, selectors, numbers, status);
-            let next = moved.board;
-            let count = moved.tally;
-            Stepped {
-                board: next,
-                tally: count_field(count),
-                answer,
-            }
-        }
-        Answer::Race(_) => Stepped {
-            board,
-            tally,
-            answer,
-        },
-        Answer::Refuse(_) => Stepped {
-            board,
-            tally,
-            answer,
-        },
+    let change = act.change;
+    let mut pointers = board.pointers;
+    let mut variables = board.variables;
+    let answer = check_act(act, &pointers, &variables, tally, status);
+    let count = follow(
+        answer,
+        change,
+        tally,
+        &mut pointers,
+        &mut variables,
+        selectors,
+        numbers,
+        status,
+    );
+    let next = Board {
+        pointers,
+        variables,
+    };
+    Stepped {
+        board: next,
+        tally: count,
+        answer,
     }
 }

@@ -1,4 +1,5 @@
 -- `judge::checks::check_act` meets its contract.
+use Rattle.heap.specs.Boards.{boardOf}
 use Rattle.judge.proofs.Answers.{check-join}
 use Rattle.rules.specs.State.{stateOf}
 use borrow.Author.Needs.{needs}
@@ -58,13 +59,13 @@ first-of-requires-6 c κs = search needs
 
 returns : tie.Need-returns
 returns c =
-    let a = c .before .before .before .before .before .before .before .before .before .before .before .before .before .before .before .before .before .before .args in
+    let a = c .before .before .before .before .before .before .before .before .before .before .before .before .before .before .before .before .before .before .before .before .args in
     let given = c .before .before .before .before .before .before .before .before .before .before .before .before .before .before .before .before .gives in
     let passed = c .before .before .before .before .before .before .before .before .before .before .before .before .before .before .before .through in
     let asserted = c .before .before .before .before .before .before .before .before .before .before .before .before .before .compared in
     let freed = c .before .before .before .before .before .before .before .before .before .before .before .frees in
     λ selectors numbers.
-    check-join (a .act) (stateOf (a .board) (a .tally) selectors numbers (a .status .now))
+    check-join (a .act) (stateOf (boardOf (a .pointers .now) (a .variables .now)) (a .tally) selectors numbers (a .status .now))
     (given .result) (asserted .result) (freed .result) (passed .result) _ _ _ _ _ _ _ _ _ _ _ _ _
     (given .ensures) (passed .ensures) (asserted .ensures) (freed .ensures)
     (c .before .before .before .before .before .before .before .before .before .before .before .before .before .before .check-room .ensures) (c .before .before .before .before .before .before .before .before .before .before .before .before .check-races .ensures) (c .before .before .before .before .before .before .before .before .before .before .check-races2 .ensures) (c .before .before .before .before .before .before .before .before .before .check-races3 .ensures)

@@ -14,7 +14,7 @@ first-of-requires : tie.Need-first-of-requires
 first-of-requires c κs = search needs
 
 returns : tie.Need-returns
-returns c = races-join (c .before .before .before .args .board .pointers) (c .before .before .before .args .looks) _ _ _ (c .before .before .race-at .ensures) (c .before .race-at2 .ensures) (c .first-of .ensures)
+returns c = races-join (c .before .before .before .before .args .pointers .now) (c .before .before .before .before .args .looks) _ _ _ (c .before .before .race-at .ensures) (c .before .race-at2 .ensures) (c .first-of .ensures)
 
 pub check-races-spec : {M : Type 1} → statement M
 check-races-spec =

@@ -14,7 +14,7 @@ first-of-requires : tie.Need-first-of-requires
 first-of-requires c κs = search needs
 
 returns : tie.Need-returns
-returns c = unset-join (c .before .before .before .args .board .pointers) (c .before .before .before .args .looks) _ _ _ (c .before .before .unset-at .ensures) (c .before .unset-at2 .ensures) (c .first-of .ensures)
+returns c = unset-join (c .before .before .before .before .args .pointers .now) (c .before .before .before .before .args .looks) _ _ _ (c .before .before .unset-at .ensures) (c .before .unset-at2 .ensures) (c .first-of .ensures)
 
 pub check-unset-spec : {M : Type 1} → statement M
 check-unset-spec =

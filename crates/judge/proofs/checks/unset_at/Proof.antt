@@ -10,23 +10,23 @@ enum-told c = search needs
 enum-known-look : tie.Need-enum-known-look
 enum-known-look c = search needs
 
-cast-pointer-at : tie.Need-cast-pointer-at
-cast-pointer-at c = search needs
+cast-word-at : tie.Need-cast-word-at
+cast-word-at c = search needs
 
-pointer-at-requires : tie.Need-pointer-at-requires
-pointer-at-requires c κs = search needs
+word-at-requires : tie.Need-word-at-requires
+word-at-requires c κs = search needs
 
 is-unset-requires : tie.Need-is-unset-requires
 is-unset-requires c κs = search needs
 
 returns : tie.Need-returns
-returns c = rw (c .before .before .before .before .look .given .1, ← (c .before .before .pointer-at .ensures), sym (c .before .is-unset .ensures) ∙ c .if1 .taken)
+returns c = rw (c .before .before .before .before .look .given .1, ← (c .before .before .word-at .ensures), sym (c .before .is-unset .ensures) ∙ c .if1 .taken)
 
 returns-2 : tie.Need-returns-2
 returns-2 c = search needs
 
 returns-3 : tie.Need-returns-3
-returns-3 c = rw (c .before .before .before .before .look .given .1, ← (c .before .before .pointer-at .ensures), sym (c .before .is-unset .ensures) ∙ c .if1 .left)
+returns-3 c = rw (c .before .before .before .before .look .given .1, ← (c .before .before .word-at .ensures), sym (c .before .is-unset .ensures) ∙ c .if1 .left)
 
 pub unset-at-spec : {M : Type 1} → statement M
 unset-at-spec =
@@ -34,8 +34,8 @@ unset-at-spec =
     (tie.spec
     enum-told
     enum-known-look
-    cast-pointer-at
-    pointer-at-requires
+    cast-word-at
+    word-at-requires
     is-unset-requires
     returns
     returns-2

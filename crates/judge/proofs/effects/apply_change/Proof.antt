@@ -42,35 +42,50 @@ same-length-2 c = search needs
 same-length-3 : tie.Need-same-length-3
 same-length-3 c = search needs
 
-returns-2 : tie.Need-returns-2
-returns-2 c = rw (c .before .before .before .before .before .before .before .before .before .before .before .change .given .1) (c .before .before .before .before .before .before .give-cell .ensures)
-
 same-length-4 : tie.Need-same-length-4
 same-length-4 c = search needs
+
+returns-2 : tie.Need-returns-2
+returns-2 c = rw (c .before .before .before .before .before .before .before .before .before .before .before .before .before .before .change .given .1) (c .before .before .before .before .before .before .before .before .give-cell .ensures (c .before .before .before .before .before .before .before .before .before .before .before .before .before .before .before .before .before .before .before .before .before .args .variables .now))
 
 same-length-5 : tie.Need-same-length-5
 same-length-5 c = search needs
 
-returns-3 : tie.Need-returns-3
-returns-3 c =
-    let a = c .before .before .before .before .before .before .before .before .before .before .before .before .before .args in
-    rw (c .before .before .before .before .before .before .before .before .change2 .given .1) (c .before .before .before .before .release .ensures (a .tally) (a .numbers .now))
-
 same-length-6 : tie.Need-same-length-6
 same-length-6 c = search needs
-
-returns-4 : tie.Need-returns-4
-returns-4 c =
-    let a = c .before .before .before .before .before .before .before .before .before .before .args in
-    rw (c .before .before .before .before .before .change3 .given .1) (c .before .before .move-word .ensures (a .tally) (a .numbers .now) (a .status .now))
 
 same-length-7 : tie.Need-same-length-7
 same-length-7 c = search needs
 
+returns-3 : tie.Need-returns-3
+returns-3 c =
+    let a = c .before .before .before .before .before .before .before .before .before .before .before .before .before .before .before .before .before .before .args in
+    rw (c .before .before .before .before .before .before .before .before .before .before .before .change2 .given .1) (c .before .before .before .before .before .before .release .ensures (a .tally) (a .variables .now) (a .numbers .now))
+
+same-length-8 : tie.Need-same-length-8
+same-length-8 c = search needs
+
+same-length-9 : tie.Need-same-length-9
+same-length-9 c = search needs
+
+returns-4 : tie.Need-returns-4
+returns-4 c =
+    let a = c .before .before .before .before .before .before .before .before .before .before .before .before .before .before .before .args in
+    rw (c .before .before .before .before .before .before .before .before .change3 .given .1) (c .before .before .before .before .move-word .ensures (a .tally) (a .variables .now) (a .numbers .now) (a .status .now))
+
+same-length-10 : tie.Need-same-length-10
+same-length-10 c = search needs
+
+same-length-11 : tie.Need-same-length-11
+same-length-11 c = search needs
+
+same-length-12 : tie.Need-same-length-12
+same-length-12 c = search needs
+
 returns-5 : tie.Need-returns-5
 returns-5 c =
-    let a = c .before .before .before .before .before .before .before .before .before .before .args in
-    rw (c .before .before .before .before .before .change4 .given .1) (c .before .before .put-number .ensures (a .tally) (a .selectors .now) (a .status .now))
+    let a = c .before .before .before .before .before .before .before .before .before .before .before .before .before .before .before .before .args in
+    rw (c .before .before .before .before .before .before .before .before .before .change4 .given .1) (c .before .before .before .before .put-number .ensures (a .tally) (a .selectors .now) (a .status .now))
 
 pub apply-change-spec : {M : Type 1} → statement M
 apply-change-spec =
@@ -89,11 +104,16 @@ apply-change-spec =
     same-length
     same-length-2
     same-length-3
-    returns-2
     same-length-4
+    returns-2
     same-length-5
-    returns-3
     same-length-6
-    returns-4
     same-length-7
+    returns-3
+    same-length-8
+    same-length-9
+    returns-4
+    same-length-10
+    same-length-11
+    same-length-12
     returns-5)

@@ -12,11 +12,11 @@ cast-t7 c = search needs
 enum-known-e-2 : tie.Need-enum-known-e-2
 enum-known-e-2 c = search needs
 
-cast-pointer-at : tie.Need-cast-pointer-at
-cast-pointer-at c = search needs
+cast-word-at : tie.Need-cast-word-at
+cast-word-at c = search needs
 
-pointer-at-requires : tie.Need-pointer-at-requires
-pointer-at-requires c κs = search needs
+word-at-requires : tie.Need-word-at-requires
+word-at-requires c κs = search needs
 
 cell-of-requires : tie.Need-cell-of-requires
 cell-of-requires c κs = search needs
@@ -28,7 +28,7 @@ returns : tie.Need-returns
 returns c = rw (c .before .e .given .1)
 
 returns-2 : tie.Need-returns-2
-returns-2 c = rw (c .before .before .before .e2 .given .1, ← (c .before .pointer-at .ensures), ← (c .cell-of .ensures))
+returns-2 c = rw (c .before .before .before .e2 .given .1, ← (c .before .word-at .ensures), ← (c .cell-of .ensures))
 
 pub data-place-of-spec : {M : Type 1} → statement M
 data-place-of-spec =
@@ -37,8 +37,8 @@ data-place-of-spec =
     enum-known-e
     cast-t7
     enum-known-e-2
-    cast-pointer-at
-    pointer-at-requires
+    cast-word-at
+    word-at-requires
     cell-of-requires
     cast-t9
     returns

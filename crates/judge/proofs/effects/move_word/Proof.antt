@@ -19,12 +19,15 @@ write-word-requires c κs = search needs
 same-length : tie.Need-same-length
 same-length c = search needs
 
+same-length-2 : tie.Need-same-length-2
+same-length-2 c = search needs
+
 returns : tie.Need-returns
 returns c =
-    λ tally numbers status.
-    let a = c .before .before .before .before .before .before .before .before .before .args in
-    move-join (a .board) _ tally (a .to) (a .from) _ _ _ (a .selectors .now) _ numbers status
-    (c .before .before .before .before .before .before .before .place-of .ensures) (c .before .before .before .before .before .place-of2 .ensures) (c .before .before .before .before .word-in .ensures) (c .before .before .write-word .ensures .0) (c .before .before .write-word .ensures .1)
+    λ tally variables numbers status.
+    let a = c .before .before .before .before .before .before .before .before .before .before .before .before .before .before .before .before .args in
+    move-join (a .pointers .now) _ variables tally (a .to) (a .from) _ _ _ (a .selectors .now) _ numbers status
+    (c .before .before .before .before .before .before .before .before .before .before .before .before .place-of .ensures) (c .before .before .before .before .before .before .before .before .before .before .place-of2 .ensures) (c .before .before .before .before .before .before .before .word-in .ensures) (c .before .before .before .before .write-word .ensures .0) (c .before .before .before .before .write-word .ensures .1)
 
 pub move-word-spec : {M : Type 1} → statement M
 move-word-spec =
@@ -35,4 +38,5 @@ move-word-spec =
     word-in-requires
     write-word-requires
     same-length
+    same-length-2
     returns)
