@@ -22,8 +22,8 @@ use Rattle.theorems.proofs.Logs.{ReplayOf, kept-log, replay-of, taken-n
 pub demand3 : (log : List ℕ) (fields mallocs live : ℕ) → AreBytes log → runBytes logFields log fresh .verdict ≡ Accepted fields mallocs live → ReplayOf logFields log fields mallocs live
 demand3 log fields mallocs live b e = replay-of logFields log fields mallocs live b e
 
--- the instrumented check of source 004's Proposition 2, for a log that reuses no cell: where no two allocations name one cell, the reading without marks gives the same verdict; the mission asks it of logs whose fields
--- all read well, and it holds of the others too
+-- the instrumented check of source 004's Proposition 2, for a log that reuses no cell: where no two allocations name one cell, the
+-- reading without marks gives the same verdict; demand 3 asks it of logs whose fields all read well, and it holds of the others too
 pub same-verdict : (log : List ℕ) → AreBytes log → Distinct (givenBy (parse logFields log .fields)) → runPlainBytes logFields log fresh .verdict ≡ runBytes logFields log fresh .verdict
 unfolding unmarkedOutcome
 same-verdict log b d =
