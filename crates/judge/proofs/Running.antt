@@ -1,10 +1,11 @@
 -- One turn of the run, and its ends, as the loop over the log meets them.
 -- Assumes nothing.
 use Prim.Native.Nat.{ℕ, zero, suc, _+_, _-_, _<_, _≤_}
-use borrow.Author.Tests.{leb-true}
+use borrow.Author.Tests.{leb-true, ltb-false, ltb-true}
+use lib.Dec.{ltb}
 use lib.ListN.{drop, drop-of-length-le, length, length-drop, take}
 use lib.Seq.{drop-drop, take-all}
-use mathlib.Core.Bool.{true}
+use mathlib.Core.Bool.{Bool, true, false, cond}
 use mathlib.Core.List.{List, [], _∷_, _++_}
 use mathlib.Core.Path.{_≡_, refl, ap, sym, _∙_}
 use native.Mathlib.Nat.{not-suc-le-zero}
@@ -16,7 +17,7 @@ use Rattle.fields.specs.declared.Refusal.{Refusal}
 use Rattle.fields.specs.declared.Refusal.the-variants.{TooManyFields}
 use Rattle.fields.specs.Checks.{valueChecks}
 use Rattle.fields.specs.Every.{Every}
-use Rattle.fields.specs.Limits.{headerBytes}
+use Rattle.fields.specs.Limits.{headerBytes, logFields}
 use Rattle.fields.specs.Read.{fieldOf, framingChecks, readField, tagIn, valueIn}
 use Rattle.fields.specs.Rows.{isTag, lengthOf, rowOf}
 use Rattle.rules.proofs.Tallies.{counted}
@@ -33,7 +34,7 @@ use Rattle.rules.specs.Run.{Outcome, liveCount, next}
 use Rattle.rules.specs.State.{State}
 use Rattle.judge.specs.declared.run.Next.{Next}
 use Rattle.judge.specs.declared.run.Next.the-variants.{On, Ended}
-use Rattle.judge.specs.Runs.{Onward, followed, nextAfter, runFrom}
+use Rattle.judge.specs.Runs.{Onward, followed, nextAfter, readAfter, runFrom}
 use Rattle.judge.specs.Steps.{Step, stateAfter, stepOf}
 
 -- ---- a field that was read lies within the bytes, and it passed the checks
@@ -85,6 +86,28 @@ unfolding runFrom
 run-none zero s = refl
 run-none (suc n) s = refl
 
+-- ---- check 3, then the reading
+module _ (n : ℕ) (b : List ℕ) where
+  pub read-got : (f : Field) → readAfter n b ≡ Got f → (n < logFields) × (readField b ≡ Got f)
+  read-got f e = by (ltb n logFields) refl e
+    where
+      by : (t : Bool) → ltb n logFields ≡ t → cond t (readField b) (Refused TooManyFields) ≡ Got f → (n < logFields) × (readField b ≡ Got f)
+      by true q e = (ltb-true n logFields q, e)
+      by false q e = absurd (let z : _≡_ {A = ℕ} 0 1 = cc in omega arith)
+
+  pub run-stops : (k : ℕ) (s : State) (r : Refusal) → 0 < length b → k ≡ logFields - n → readAfter n b ≡ Refused r
+      → runFrom k b s ≡ record { verdict = RefusedAt r (s .fields); state = s }
+  run-stops k s r some fuel e = by (ltb n logFields) refl e
+    where
+      by : (t : Bool) → ltb n logFields ≡ t → cond t (readField b) (Refused TooManyFields) ≡ Refused r → runFrom k b s ≡ record { verdict = RefusedAt r (s .fields); state = s }
+      by true q e =
+          let more : k ≡ suc (logFields - suc n) = omega (arith, ltb-true n logFields q) in
+          rw more (run-refused (logFields - suc n) b s r some e)
+      by false q e =
+          let none : k ≡ 0 = omega (arith, ltb-false n logFields q) in
+          let same : TooManyFields ≡ r = cc in
+          rw (none, ← same) (run-full b s some)
+
 -- ---- one turn, at a place of the log
 module _ (l : List ℕ) (at : ℕ) (within : at < length l) where
   pub some-left : 0 < length (drop at l)
@@ -94,11 +117,7 @@ module _ (l : List ℕ) (at : ℕ) (within : at < length l) where
   pub part : take (length l - at) (drop at l) ≡ drop at l
   part = take-all (length l - at) (drop at l) (simp length-drop (omega arith))
 
-  pub turn-refused : (n : ℕ) (s : State) (r : Refusal) → readField (take (length l - at) (drop at l)) ≡ Refused r
-      → _≡_ {A = Outcome} (record { verdict = RefusedAt r (s .fields); state = s }) (runFrom (suc n) (drop at l) s)
-  turn-refused n s r e = sym (run-refused n (drop at l) s r some-left (rw part at e))
-
-  module _ (f : Field) (read : readField (take (length l - at) (drop at l)) ≡ Got f) (s : State) (step : Step) (stepped : step ≡ stepOf (actOf f) s) where
+  module _ (f : Field) (read : readField (drop at l) ≡ Got f) (s : State) (step : Step) (stepped : step ≡ stepOf (actOf f) s) where
     by-answer : (n : ℕ) (k : Answer) → followed n (nextAfter k (s .fields) f at) l (stateAfter k s (effect (actOf f) s))
         ≡ next k (s .fields) f s (runFrom n (drop (headerBytes + lengthOf (f .tag)) (drop at l)) (effect (actOf f) s))
     by-answer n Go = rw drop-drop
@@ -107,13 +126,13 @@ module _ (l : List ℕ) (at : ℕ) (within : at < length l) where
 
     pub turn-got : (n : ℕ) → followed n (nextAfter (step .answer) (s .fields) f at) l (step .state) ≡ runFrom (suc n) (drop at l) s
     unfolding stepOf
-    turn-got n = rw stepped (by-answer n (check (actOf f) s) ∙ sym (run-got n (drop at l) s f some-left (rw part at read)))
+    turn-got n = rw stepped (by-answer n (check (actOf f) s) ∙ sym (run-got n (drop at l) s f some-left read))
 
     onward-by : (k : Answer) → Onward (nextAfter k (s .fields) f at) at (length l)
         (record { fields = s .fields; mallocs = s .mallocs })
         (record { fields = stateAfter k s (effect (actOf f) s) .fields; mallocs = stateAfter k s (effect (actOf f) s) .mallocs })
     onward-by Go =
-        let fits = got-passed (drop at l) f (rw part at read) .fits in
+        let fits = got-passed (drop at l) f read .fits in
         let count = counted (actOf f) s in
         ((omega arith, omega (arith, length-drop at l)), (count .fields, count .mallocs))
     onward-by (Race p) = tt
@@ -133,8 +152,9 @@ module _ (l : List ℕ) (at : ℕ) (within : at < length l) where
     pub loop-ended : (v : Verdict) → x ≡ Ended v → _≡_ {A = Outcome} (record { verdict = v; state = t }) o
     loop-ended v e = (rw e at (turned m)) ∙ (rw fuel at whole)
 
-  pub loop-full : (s : State) (o : Outcome) (k : ℕ) → k ≡ 0 → runFrom k (drop at l) s ≡ o → _≡_ {A = Outcome} (record { verdict = RefusedAt TooManyFields (s .fields); state = s }) o
-  loop-full s o k none whole = sym (run-full (drop at l) s some-left) ∙ (rw none at whole)
+  pub loop-stopped : (s : State) (o : Outcome) (k : ℕ) (r : Refusal) → k ≡ logFields - s .fields → runFrom k (drop at l) s ≡ o → readAfter (s .fields) (drop at l) ≡ Refused r
+      → _≡_ {A = Outcome} (record { verdict = RefusedAt r (s .fields); state = s }) o
+  loop-stopped s o k r fuel whole e = sym (run-stops (s .fields) (drop at l) k s r some-left fuel e) ∙ whole
 
 pub loop-end : (l : List ℕ) (at : ℕ) (s : State) (o : Outcome) (n c : ℕ) → length l ≤ at → runFrom n (drop at l) s ≡ o → c ≡ liveCount (s .status) → _≡_ {A = Outcome} (record { verdict = Accepted (s .fields) (s .mallocs) c; state = s }) o
 loop-end l at s o n c past whole count = rw count (sym (run-none n s) ∙ (rw (drop-of-length-le l {i = at} past) at whole))

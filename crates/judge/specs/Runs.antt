@@ -1,11 +1,17 @@
 -- The run from a place of the log: what remains to be run there, and what one turn leaves.
 -- Assumes nothing.
 use Prim.Native.Nat.{ℕ, _+_, _<_, _≤_}
+use lib.Dec.{ltb}
 use lib.ListN.{drop}
+use mathlib.Core.Bool.{cond}
 use mathlib.Core.List.{List}
 use mathlib.Core.Path.{_≡_}
 use Rattle.fields.specs.declared.Field.{Field}
-use Rattle.fields.specs.Limits.{headerBytes}
+use Rattle.fields.specs.declared.Read.{Read}
+use Rattle.fields.specs.declared.Read.the-variants.{Refused as Unread}
+use Rattle.fields.specs.declared.Refusal.the-variants.{TooManyFields}
+use Rattle.fields.specs.Limits.{headerBytes, logFields}
+use Rattle.fields.specs.Read.{readField}
 use Rattle.fields.specs.Rows.{lengthOf}
 use Rattle.rules.specs.declared.Answer.{Answer}
 use Rattle.rules.specs.declared.Answer.the-variants.{Go, Race, Refuse}
@@ -21,6 +27,10 @@ use Rattle.judge.specs.declared.run.Ran.{Ran}
 -- shut, so that a run stands in the proofs under its name
 unfoldable pub runFrom : ℕ → List ℕ → State → Outcome
 runFrom n bytes s = runBytes n bytes s
+
+-- the field at the front of what is left, after so many: check 3, then the reading
+abbrev pub readAfter : ℕ → List ℕ → Read
+readAfter fields part = cond (ltb fields logFields) (readField part) (Unread TooManyFields)
 
 -- what follows field n, being f and read at a place, by its answer
 abbrev pub nextAfter : Answer → ℕ → Field → ℕ → Next

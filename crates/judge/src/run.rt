@@ -1,9 +1,9 @@
 // The run over a log: field by field, until one stops or the log ends.
 ghost use mathlib.Core.Path.{_≡_};
-ghost use Prim.Native.Nat.{ℕ, suc, _<_, _≤_};
+ghost use Prim.Native.Nat.{_<_, _≤_};
 ghost use lib.ListN.{drop, length};
 ghost use Rattle.fields.specs.Limits.{cells, logBytes, logFields};
-ghost use Rattle.judge.specs.Runs.{Onward, followed, nextAfter, ranTo, runFrom};
+ghost use Rattle.judge.specs.Runs.{nextAfter, ranTo, readAfter};
 ghost use Rattle.rules.specs.Log.{runBytes};
 ghost use Rattle.rules.specs.State.{freshBoard, freshTally, stateOf};
 use super::step::step;
@@ -23,12 +23,6 @@ use rules::Verdict;
 pub enum Next {
     On(usize),
     Ended(Verdict),
-}
-
-pub struct Turn {
-    pub next: Next,
-    pub board: Board,
-    pub tally: Tally,
 }
 
 pub struct Ran {
@@ -58,42 +52,19 @@ fn next_after(answer: Answer, fields: u32, field: Field, at: usize) -> Next
     }
 }
 
-// One field, read where it stands in the log. However many fields may follow it, going on from what it leaves gives what the run
-// from before it gives.
-fn turn_at(
-    log: &[u8],
-    at: usize,
-    board: Board,
-    tally: Tally,
-    selectors: &mut [u16],
-    numbers: &mut [u32],
-    status: &mut [u8],
-) -> Turn
-    requires { ⌜ (at < length (now log)) × (length (now log) ≤ logBytes) ⌝ }
-    requires { ⌜ (tally .fields < logFields) × (tally .mallocs ≤ tally .fields) ⌝ }
-    ensures { λ r. ⌜ ((n : ℕ) → followed n (r .next) (now (log .entry)) (stateOf (r .board) (r .tally) (now (selectors .exit)) (now (numbers .exit)) (now (status .exit))) ≡ runFrom (suc n) (drop at (now (log .entry))) (stateOf board tally (now (selectors .entry)) (now (numbers .entry)) (now (status .entry)))) ⌝ }
-    ensures { λ r. ⌜ Onward (r .next) at (length (now (log .entry))) tally (r .tally) ⌝ }
+// The field at a place of the log, once check 3 has let it be read.
+fn read_at(log: &[u8], at: usize, fields: u32) -> Read
+    requires { ⌜ at < length (now log) ⌝ }
+    ensures { λ r. ⌜ r ≡ readAfter fields (drop at (now (log .entry))) ⌝ }
 {
-    match read_field(&log[at..]) {
-        Read::Got(field) => {
-            let stepped = step(field, board, tally, selectors, numbers, status);
-            let answer = stepped.answer;
-            let after = stepped.board;
-            let count = stepped.tally;
-            Turn {
-                next: next_after(answer, tally.fields, field, at),
-                board: after,
-                tally: count,
-            }
-        }
-        Read::Refused(why) => Turn {
-            next: Next::Ended(Verdict::Refused(why, tally.fields)),
-            board,
-            tally,
-        },
+    if fields < (Log::FIELDS as u32) {
+        return read_field(&log[at..]);
     }
+    Read::Refused(Refusal::TooManyFields)
 }
 
+// The board is taken back from the step at once and in one place: between a board handed over and one taken back nothing is copied
+// but the board itself.
 pub fn run(log: &[u8], selectors: &mut [u16], numbers: &mut [u32], status: &mut [u8]) -> Ran
     requires { ⌜ (length (now log) ≤ logBytes) × (length (now status) ≤ cells) ⌝ }
     ensures { λ r. ⌜ ranTo r (now (selectors .exit)) (now (numbers .exit)) (now (status .exit)) ≡ runBytes logFields (now (log .entry)) (stateOf freshBoard freshTally (now (selectors .entry)) (now (numbers .entry)) (now (status .entry))) ⌝ }
@@ -103,23 +74,23 @@ pub fn run(log: &[u8], selectors: &mut [u16], numbers: &mut [u32], status: &mut 
     let mut at: usize = 0;
     while at < log.len() {
         let fields = tally.fields;
-        if (Log::FIELDS as u32) <= fields {
-            return ended(
-                Verdict::Refused(Refusal::TooManyFields, fields),
-                board,
-                tally,
-            );
-        }
-        let turn = turn_at(log, at, board, tally, selectors, numbers, status);
-        board = turn.board;
-        tally = turn.tally;
-        let next = turn.next;
-        match next {
-            Next::On(place) => {
-                at = place;
+        match read_at(log, at, fields) {
+            Read::Got(field) => {
+                let stepped = step(field, board, tally, selectors, numbers, status);
+                board = stepped.board;
+                tally = stepped.tally;
+                let answer = stepped.answer;
+                match next_after(answer, fields, field, at) {
+                    Next::On(place) => {
+                        at = place;
+                    }
+                    Next::Ended(verdict) => {
+                        return ended(verdict, board, tally);
+                    }
+                }
             }
-            Next::Ended(verdict) => {
-                return ended(verdict, board, tally);
+            Read::Refused(why) => {
+                return ended(Verdict::Refused(why, fields), board, tally);
             }
         }
     }

@@ -1,12 +1,12 @@
 -- `judge::run::run` meets its contract. The invariant: the run of what is left, from what is held, gives what the whole run gives.
 use Prim.Native.Nat.{_-_, _≤_}
-use Rattle.judge.proofs.Running.{loop-end, loop-ended, loop-full, loop-on, onward-on, run-opened}
+use Rattle.judge.proofs.Running.{loop-end, loop-ended, loop-on, loop-stopped, onward-on, read-got, run-opened, turn-got, turn-onward}
 use Rattle.judge.specs.Runs.{runFrom}
 use Rattle.rules.proofs.Tallies.{live-at-most}
 use Rattle.rules.specs.State.{freshBoard, freshTally, stateOf}
 use borrow.Author.Needs.{needs}
 use lib.ListN.{drop, length}
-use mathlib.Core.Path.{_≡_, _∙_, refl}
+use mathlib.Core.Path.{_≡_, _∙_, refl, sym}
 use native.Mathlib.Omega.{arith}
 use Rattle.judge.proofs.run.run.Statement.{statement}
 use Rattle.judge.proofs.run.run.Tie as tie
@@ -29,80 +29,103 @@ fresh-requires-2 c κs = search needs
 loop-holds : tie.Need-loop-holds Inv-loop μ-loop
 loop-holds c = rw (c .fresh2 .ensures, c .before .fresh .ensures) ((omega arith, (refl, (refl, refl))), ((omega arith, omega arith), refl))
 
-cast-if1 : tie.Need-cast-if1 Inv-loop μ-loop
-cast-if1 c = search needs
+read-at-requires : tie.Need-read-at-requires Inv-loop μ-loop
+read-at-requires c κs = c .loop-test .taken
+
+enum-known-field : tie.Need-enum-known-field Inv-loop μ-loop
+enum-known-field c = search needs
+
+step-requires : tie.Need-step-requires Inv-loop μ-loop
+step-requires c κs =
+    let h = c .before .before .before .before .before .before .before .before .loop .inv .1 .0 in
+    (h .0, omega (arith, h .0, h .1))
+
+next-after-requires : tie.Need-next-after-requires Inv-loop μ-loop
+next-after-requires c κs = omega (arith, c .before .before .before .before .before .before .before .before .before .before .before .before .before .before .before .before .loop-test .taken, c .before .before .before .before .before .before .before .before .before .before .before .before .before .before .before .before .before .before .before .before .before .before .before .before .pre .0)
+
+enum-known-place : tie.Need-enum-known-place Inv-loop μ-loop
+enum-known-place c = search needs
+
+loop-less : tie.Need-loop-less Inv-loop μ-loop
+loop-less c =
+    let h = c .before .before .before .before .before .before .before .before .before .before .before .before .before .before .before .before .before .before .before .before .before .loop in
+    let log = c .before .before .before .before .before .before .before .before .before .before .before .before .before .before .before .before .before .before .before .before .before .before .before .before .before .before .before .before .args .log .now in
+    let s = stateOf (h .board) (h .tally) (h .selectors) (h .numbers) (h .status) in
+    let within = c .before .before .before .before .before .before .before .before .before .before .before .before .before .before .before .before .before .before .before .before .loop-test .taken in
+    let got = c .before .before .before .before .before .before .before .before .before .before .before .before .before .before .before .before .before .field .given in
+    let read = read-got (h .tally .fields) (drop (h .at) log) (got .0 .0) (sym (c .before .before .before .before .before .before .before .before .before .before .before .before .before .before .before .before .before .before .before .read-at .ensures) ∙ got .1) in
+    let stepped = c .before .before .before .before .before .before .before .before .before .before .before .before .step .ensures in
+    let on = sym (c .before .before .before .next-after .ensures) ∙ c .before .place .given .1 in
+    let o = onward-on _ _ (h .at) (length log) (h .tally) (c .before .before .before .before .before .before .before .before .before .before .before .before .step .result .tally) on (turn-onward log (h .at) within (got .0 .0) (read .1) s _ stepped) in
+    omega (arith, o .0 .0, o .0 .1)
+
+loop-again : tie.Need-loop-again Inv-loop μ-loop
+loop-again c =
+    let h = c .before .before .before .before .before .before .before .before .before .before .before .before .before .before .before .before .before .before .before .before .before .loop in
+    let log = c .before .before .before .before .before .before .before .before .before .before .before .before .before .before .before .before .before .before .before .before .before .before .before .before .before .before .before .before .args .log .now in
+    let s = stateOf (h .board) (h .tally) (h .selectors) (h .numbers) (h .status) in
+    let within = c .before .before .before .before .before .before .before .before .before .before .before .before .before .before .before .before .before .before .before .before .loop-test .taken in
+    let got = c .before .before .before .before .before .before .before .before .before .before .before .before .before .before .before .before .before .field .given in
+    let read = read-got (h .tally .fields) (drop (h .at) log) (got .0 .0) (sym (c .before .before .before .before .before .before .before .before .before .before .before .before .before .before .before .before .before .before .before .read-at .ensures) ∙ got .1) in
+    let stepped = c .before .before .before .before .before .before .before .before .before .before .before .before .step .ensures in
+    let on = sym (c .before .before .before .next-after .ensures) ∙ c .before .place .given .1 in
+    let o = onward-on _ _ (h .at) (length log) (h .tally) (c .before .before .before .before .before .before .before .before .before .before .before .before .step .result .tally) on (turn-onward log (h .at) within (got .0 .0) (read .1) s _ stepped) in (
+      (o .0 .1, search (needs, h .inv .0 .1)),
+      (
+        (omega (arith, o .1 .0, read .0), omega (arith, o .1 .0, o .1 .1, h .inv .1 .0 .1)),
+        loop-on log (h .at) within _ s _ _ _ _ (turn-got log (h .at) within (got .0 .0) (read .1) s _ stepped) (omega (arith, o .1 .0, read .0)) (h .inv .1 .1) _ on,
+      ),
+    )
+
+enum-known-verdict : tie.Need-enum-known-verdict Inv-loop μ-loop
+enum-known-verdict c = search needs
 
 ended-requires : tie.Need-ended-requires Inv-loop μ-loop
 ended-requires c κs = search needs
 
 same-length : tie.Need-same-length Inv-loop μ-loop
-same-length c = search needs
+same-length c = search (needs, c .before .before .before .before .before .before .before .before .before .before .before .before .before .before .before .before .before .before .before .before .before .before .loop .inv .0 .1 .0)
 
 same-length-2 : tie.Need-same-length-2 Inv-loop μ-loop
-same-length-2 c = search needs
+same-length-2 c = search (needs, c .before .before .before .before .before .before .before .before .before .before .before .before .before .before .before .before .before .before .before .before .before .before .loop .inv .0 .1 .1 .0)
 
 same-length-3 : tie.Need-same-length-3 Inv-loop μ-loop
-same-length-3 c = search needs
+same-length-3 c = search (needs, c .before .before .before .before .before .before .before .before .before .before .before .before .before .before .before .before .before .before .before .before .before .before .loop .inv .0 .1 .1 .1)
 
 returns : tie.Need-returns Inv-loop μ-loop
 returns c =
-    let h = c .before .before .before .loop in
+    let h = c .before .before .before .before .before .before .before .before .before .before .before .before .before .before .before .before .before .before .before .before .before .before .loop in
+    let log = c .before .before .before .before .before .before .before .before .before .before .before .before .before .before .before .before .before .before .before .before .before .before .before .before .before .before .before .before .before .args .log .now in
     let s = stateOf (h .board) (h .tally) (h .selectors) (h .numbers) (h .status) in
+    let within = c .before .before .before .before .before .before .before .before .before .before .before .before .before .before .before .before .before .before .before .before .before .loop-test .taken in
+    let got = c .before .before .before .before .before .before .before .before .before .before .before .before .before .before .before .before .before .before .field .given in
+    let read = read-got (h .tally .fields) (drop (h .at) log) (got .0 .0) (sym (c .before .before .before .before .before .before .before .before .before .before .before .before .before .before .before .before .before .before .before .before .read-at .ensures) ∙ got .1) in
+    let stepped = c .before .before .before .before .before .before .before .before .before .before .before .before .before .step .ensures in
     rw (c .ended .ensures)
-    (loop-full (c .before .before .before .before .before .before .before .before .before .before .args .log .now) (h .at) (c .before .before .loop-test .taken) s _ _ (omega (arith, c .before .if1 .taken)) (h .inv .1 .1)
+    (loop-ended log (h .at) within _ s _ _ _ (4095 - h .tally .fields) (turn-got log (h .at) within (got .0 .0) (read .1) s _ stepped) (omega (arith, read .0)) (h .inv .1 .1) _ (sym (c .before .before .before .before .next-after .ensures) ∙ c .before .before .verdict .given .1)
     ∙ run-opened _ _ _)
 
-turn-at-requires : tie.Need-turn-at-requires Inv-loop μ-loop
-turn-at-requires c κs = ((c .before .before .before .before .loop-test .taken, c .before .before .before .before .before .before .before .before .before .before .before .before .pre .0), (omega (arith, c .before .before .before .if1 .left), c .before .before .before .before .before .loop .inv .1 .0 .1))
-
-enum-known-next : tie.Need-enum-known-next Inv-loop μ-loop
-enum-known-next c = search needs
-
-loop-less : tie.Need-loop-less Inv-loop μ-loop
-loop-less c =
-    let h = c .before .before .before .before .before .before .before .before .before .before .before .before .before .before .before .before .before .loop in
-    let turn = c .before .before .before .before .before .before .before .before .before .before .before .turn-at in
-    let o = onward-on (turn .result .next) _ (h .at) (length (c .before .before .before .before .before .before .before .before .before .before .before .before .before .before .before .before .before .before .before .before .before .before .before .before .args .log .now)) (h .tally) (turn .result .tally) (c .before .next .given .1) (turn .ensures .1) in
-    omega (arith, o .0 .0, o .0 .1)
-
-loop-again : tie.Need-loop-again Inv-loop μ-loop
-loop-again c =
-    let h = c .before .before .before .before .before .before .before .before .before .before .before .before .before .before .before .before .before .loop in
-    let s = stateOf (h .board) (h .tally) (h .selectors) (h .numbers) (h .status) in
-    let turn = c .before .before .before .before .before .before .before .before .before .before .before .turn-at in
-    let log = c .before .before .before .before .before .before .before .before .before .before .before .before .before .before .before .before .before .before .before .before .before .before .before .before .args .log .now in
-    let some = c .before .before .before .before .before .before .before .before .before .before .before .before .before .before .before .if1 .left in
-    let o = onward-on (turn .result .next) _ (h .at) (length log) (h .tally) (turn .result .tally) (c .before .next .given .1) (turn .ensures .1) in (
-      (o .0 .1, search needs),
-      (
-        (omega (arith, o .1 .0, some), omega (arith, o .1 .0, o .1 .1, h .inv .1 .0 .1)),
-        loop-on log (h .at) (c .before .before .before .before .before .before .before .before .before .before .before .before .before .before .before .before .loop-test .taken) (turn .result .next) s _ _ _ _ (turn .ensures .0) (omega (arith, o .1 .0, some)) (h .inv .1 .1) _ (c .before .next .given .1),
-      ),
-    )
-
-enum-known-next-2 : tie.Need-enum-known-next-2 Inv-loop μ-loop
-enum-known-next-2 c = search needs
+enum-known-why : tie.Need-enum-known-why Inv-loop μ-loop
+enum-known-why c = search needs
 
 ended-requires-2 : tie.Need-ended-requires-2 Inv-loop μ-loop
 ended-requires-2 c κs = search needs
 
 same-length-4 : tie.Need-same-length-4 Inv-loop μ-loop
-same-length-4 c = search (needs, c .before .before .before .before .before .before .before .before .before .before .before .before .before .before .before .before .before .before .loop .inv .0 .1 .0)
+same-length-4 c = search needs
 
 same-length-5 : tie.Need-same-length-5 Inv-loop μ-loop
-same-length-5 c = search (needs, c .before .before .before .before .before .before .before .before .before .before .before .before .before .before .before .before .before .before .loop .inv .0 .1 .1 .0)
+same-length-5 c = search needs
 
 same-length-6 : tie.Need-same-length-6 Inv-loop μ-loop
-same-length-6 c = search (needs, c .before .before .before .before .before .before .before .before .before .before .before .before .before .before .before .before .before .before .loop .inv .0 .1 .1 .1)
+same-length-6 c = search needs
 
 returns-2 : tie.Need-returns-2 Inv-loop μ-loop
 returns-2 c =
-    let h = c .before .before .before .before .before .before .before .before .before .before .before .before .before .before .before .before .before .before .loop in
+    let h = c .before .before .before .before .before .before .loop in
     let s = stateOf (h .board) (h .tally) (h .selectors) (h .numbers) (h .status) in
-    let turn = c .before .before .before .before .before .before .before .before .before .before .before .before .turn-at in
-    let some = c .before .before .before .before .before .before .before .before .before .before .before .before .before .before .before .before .if1 .left in
     rw (c .ended2 .ensures)
-    (loop-ended (c .before .before .before .before .before .before .before .before .before .before .before .before .before .before .before .before .before .before .before .before .before .before .before .before .before .args .log .now) (h .at) (c .before .before .before .before .before .before .before .before .before .before .before .before .before .before .before .before .before .loop-test .taken) (turn .result .next) s _ _ _ (4095 - h .tally .fields) (turn .ensures .0) (omega (arith, some)) (h .inv .1 .1) _ (c .before .before .next2 .given .1)
+    (loop-stopped (c .before .before .before .before .before .before .before .before .before .before .before .before .before .args .log .now) (h .at) (c .before .before .before .before .before .loop-test .taken) s _ _ _ refl (h .inv .1 .1) (sym (c .before .before .before .before .read-at .ensures) ∙ c .before .before .why .given .1)
     ∙ run-opened _ _ _)
 
 live-count-requires : tie.Need-live-count-requires Inv-loop μ-loop
@@ -140,17 +163,20 @@ run-spec =
     fresh-requires
     fresh-requires-2
     loop-holds
-    cast-if1
+    read-at-requires
+    enum-known-field
+    step-requires
+    next-after-requires
+    enum-known-place
+    loop-less
+    loop-again
+    enum-known-verdict
     ended-requires
     same-length
     same-length-2
     same-length-3
     returns
-    turn-at-requires
-    enum-known-next
-    loop-less
-    loop-again
-    enum-known-next-2
+    enum-known-why
     ended-requires-2
     same-length-4
     same-length-5
