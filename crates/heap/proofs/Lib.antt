@@ -2,3 +2,4 @@
 -- Assumes nothing.
 pub mod Front
 pub mod Along
+pub mod Freed

@@ -31,12 +31,13 @@ pub fn invalidate(word: u16) -> u16
     word
 }
 
-// The word after a cell was freed.
+// The word after a cell was freed. A valid word that holds the cell is the cell's number, so that the word itself is compared: in a
+// sweep this is one comparison a word.
 pub fn after_free(cell: u16, word: u16) -> u16
     ensures { λ r. ⌜ r ≡ afterFree cell word ⌝ }
 {
-    if cell == cell_of(word) {
-        return invalidate(word);
+    if word == cell {
+        return invalidate(cell);
     }
     word
 }
