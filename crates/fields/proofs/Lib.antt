@@ -8,3 +8,4 @@ pub mod Writing
 pub mod Packing
 pub mod RoundTrip
 pub mod OneResult
+pub mod Tags

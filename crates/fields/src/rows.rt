@@ -24,27 +24,8 @@ const NUMBER: bool = true;
 const NONE: bool = false;
 
 impl Row {
-    // The tags are 1 to 13. Tag 0 is none, and has a row so that the table is indexed by tag.
+    // The tags are 1 to 13. Tag 0 is none, and has a place so that the table is indexed by tag.
     pub const TAGS: usize = 14;
-
-    const EMPTY: Row = Row(Absent, Absent, Absent, NONE, NONE);
-
-    const ALL: [Row; Row::TAGS] = [
-        Row::EMPTY,
-        Row(Pointer, Absent, Absent, CELL, NUMBER), // 1: p := malloc
-        Row(Pointer, Absent, Absent, NONE, NONE), // 2: p := free
-        Row(Pointer, Pointer, Absent, NONE, NONE), // 3: p := q
-        Row(Pointer, Pointer, Selector, NONE, NONE), // 4: p := q.sel
-        Row(Pointer, Selector, Pointer, NONE, NONE), // 5: p.sel := q
-        Row(Data, Pointer, Absent, NONE, NONE), // 6: x := p.data
-        Row(Pointer, Data, Absent, NONE, NONE), // 7: p.data := x
-        Row(Data, Absent, Absent, NONE, NUMBER), // 8: x := constant
-        Row(Pointer, Pointer, Absent, NONE, NONE), // 9: assert p = q
-        Row(Pointer, Pointer, Absent, NONE, NONE), // 10: assert p ≠ q
-        Row(Data, Data, Absent, NONE, NONE), // 11: assert x = y
-        Row(Data, Data, Absent, NONE, NONE), // 12: assert x ≠ y
-        Row(Data, Data, Data, NONE, NONE), // 13: x := y + z
-    ];
 
     // The value length of each tag, the thread's byte included.
     const LENGTHS: [u8; Row::TAGS] = [1, 8, 2, 3, 4, 4, 3, 3, 6, 3, 3, 3, 3, 4];
@@ -59,14 +40,26 @@ pub fn is_tag(tag: u8) -> bool
     (tag as usize) < Row::TAGS
 }
 
+// What the value of each tag holds. A match, for a constant table of structs would be built anew at each call.
 pub fn row_of(tag: u8) -> Row
     ensures { λ r. ⌜ r ≡ rowOf tag ⌝ }
 {
-    let at = tag as usize;
-    if at < Row::TAGS {
-        return Row::ALL[at];
+    match tag {
+        1 => Row(Pointer, Absent, Absent, CELL, NUMBER), // p := malloc
+        2 => Row(Pointer, Absent, Absent, NONE, NONE), // p := free
+        3 => Row(Pointer, Pointer, Absent, NONE, NONE), // p := q
+        4 => Row(Pointer, Pointer, Selector, NONE, NONE), // p := q.sel
+        5 => Row(Pointer, Selector, Pointer, NONE, NONE), // p.sel := q
+        6 => Row(Data, Pointer, Absent, NONE, NONE), // x := p.data
+        7 => Row(Pointer, Data, Absent, NONE, NONE), // p.data := x
+        8 => Row(Data, Absent, Absent, NONE, NUMBER), // x := constant
+        9 => Row(Pointer, Pointer, Absent, NONE, NONE), // assert p = q
+        10 => Row(Pointer, Pointer, Absent, NONE, NONE), // assert p ≠ q
+        11 => Row(Data, Data, Absent, NONE, NONE), // assert x = y
+        12 => Row(Data, Data, Absent, NONE, NONE), // assert x ≠ y
+        13 => Row(Data, Data, Data, NONE, NONE), // x := y + z
+        _ => Row(Absent, Absent, Absent, NONE, NONE),
     }
-    Row::EMPTY
 }
 
 // How many bytes follow the header of a field with this tag.

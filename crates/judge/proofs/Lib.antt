@@ -1,6 +1,5 @@
 -- The laws that the proofs of this crate share.
 -- Assumes nothing.
-pub mod Tags
 pub mod Answers
 pub mod Changing
 pub mod Steps

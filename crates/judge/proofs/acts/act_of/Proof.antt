@@ -1,7 +1,8 @@
 -- `judge::acts::act_of` meets its contract: an arm for each line of the table of commands.
-use Rattle.judge.proofs.Tags.{no-command}
-use Rattle.rules.specs.Commands.{commandOf}
+use Rattle.fields.proofs.Tags.{no-line}
+use Rattle.rules.specs.Commands.{commandOf, commands, noCommand}
 use borrow.Author.Needs.{needs}
+use mathlib.Core.Path.{refl}
 use Rattle.judge.proofs.acts.act_of.Statement.{statement}
 use Rattle.judge.proofs.acts.act_of.Tie as tie
 
@@ -100,7 +101,8 @@ unfolding commandOf
 returns-13 c = rw (c .before .match .keys13) (c .does9 .ensures)
 
 returns-14 : tie.Need-returns-14
-returns-14 c = rw (no-command _ (c .before .match .rest)) (c .does10 .ensures)
+unfolding commandOf
+returns-14 c = rw (no-line commands noCommand refl (c .before .before .before .args .field .tag) (c .before .match .rest)) (c .does10 .ensures)
 
 pub act-of-spec : {M : Type 1} → statement M
 act-of-spec =
