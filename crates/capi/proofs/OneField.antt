@@ -3,11 +3,11 @@
 use Prim.Native.Nat.{ℕ, _≤_, _<_}
 use borrow.Author.Tests.{le-leb, lt-leb}
 use lib.ListN.{drop, length}
-use mathlib.Core.Bool.{Bool, true, false, cond}
 use mathlib.Core.List.{List, [], _∷_, _++_}
 use mathlib.Core.Path.{_≡_, ap}
 use native.Mathlib.Omega.{arith}
-use Rattle.fields.proofs.Writing.{length-fieldBytes}
+use Rattle.fields.proofs.Passing.{either}
+use Rattle.fields.proofs.Writing.{length-fieldBytes, length-most}
 use Rattle.fields.specs.declared.Field.{Field}
 use Rattle.fields.specs.declared.Read.{Read}
 use Rattle.fields.specs.declared.Refusal.{Refusal}
@@ -16,7 +16,6 @@ use Rattle.fields.specs.declared.Written.the-variants.{Bytes, Refused}
 use Rattle.fields.specs.Order.{Test, inOrder}
 use Rattle.fields.specs.Read.{readField}
 use Rattle.fields.specs.Refusals.{numberOf}
-use Rattle.fields.specs.Rows.{isPresent, lengthOf, rowOf, widthIf, widthsOf}
 use Rattle.fields.specs.Write.{Writing, fieldBytes, writeField, writing, writingChecks}
 use Rattle.capi.specs.Fronts.{front}
 use Rattle.capi.specs.Fields.{fieldIn, fieldPlaces, readCall, readLeft, readTold, tooShort, writeCall, writeLeft, writeTold}
@@ -54,32 +53,17 @@ module _ (field out answer : List ℕ) where
   write-refused w r number out′ e numbered told = rw numbered (rw e at told)
 
 -- ---- the number of bytes that an answer gives is at most that of the longest field
-
 abbrev bytesIn : Written → ℕ
 bytesIn (Bytes n) = n
 bytesIn (Refused r) = 0
 
-either : (n : ℕ) (b : Bool) (x y : Writing) → bytesIn (x .answer) ≤ n → bytesIn (y .answer) ≤ n → bytesIn (cond b x y .answer) ≤ n
-either n true x y h k = h
-either n false x y h k = k
-
 checked : (n : ℕ) (out out′ : List ℕ) (tests : List (Test Refusal)) → bytesIn (inOrder (λ r. writing (Refused r) out) (writing (Bytes n) out′) tests .answer) ≤ n
 checked n out out′ [] = omega arith
-checked n out out′ (t ∷ ts) = either n (t .passes) _ _ (checked n out out′ ts) (omega arith)
-
-narrow : (there : Bool) (width : ℕ) → widthIf there width ≤ width
-narrow true width = omega arith
-narrow false width = omega arith
-
-short-field : (f : Field) → length (fieldBytes f) ≤ 13
-unfolding lengthOf widthsOf
-short-field f =
-    let r = rowOf (f .tag) in
-    omega (arith, length-fieldBytes f, narrow (isPresent (r .0)) 1, narrow (isPresent (r .1)) 1, narrow (isPresent (r .2)) 1, narrow (r .3) 2, narrow (r .4) 4)
+checked n out out′ (t ∷ ts) = either (λ (w : Writing). bytesIn (w .answer) ≤ n) (t .passes) (checked n out out′ ts) (omega arith)
 
 pub few-bytes : (f : Field) (out out′ : List ℕ) (n : ℕ) → writing (Bytes n) out′ ≡ writeField f out → n ≤ 13
 unfolding writeField
 few-bytes f out out′ n e =
     let same = ap (λ (x : Writing). bytesIn (x .answer)) e in
     let bytes = fieldBytes f in
-    omega (arith, same, checked (length bytes) out (bytes ++ drop (length bytes) out) (writingChecks f (length out)), short-field f)
+    omega (arith, same, checked (length bytes) out (bytes ++ drop (length bytes) out) (writingChecks f (length out)), length-fieldBytes f, length-most (f .tag))

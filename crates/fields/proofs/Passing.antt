@@ -1,4 +1,4 @@
--- Tests in order: what follows where all pass, and what a caller does with the answer of several.
+-- Tests, one and in order: what follows where all pass, and what a caller does with the answer of several.
 -- Assumes nothing.
 use mathlib.Core.Bool.{Bool, true, false, cond}
 use mathlib.Core.List.{List, [], _∷_, _++_}
@@ -15,7 +15,12 @@ pub every-join : {A : Type 0} (P : A → Type 0) (l m : List A) → Every P l �
 every-join P [] m e f = f
 every-join P (x ∷ l) m e f = (e .0, every-join P l m (e .1) f)
 
--- ---- tests
+-- ---- one test: what holds of both answers
+pub either {ℓ} : {A : Type 0} (P : A → Type ℓ) (b : Bool) {x y : A} → P x → P y → P (cond b x y)
+either P true p q = p
+either P false p q = q
+
+-- ---- tests in order
 abbrev pub Passes : {A : Type 0} → Test A → Type 0
 Passes t = t .passes ≡ true
 

@@ -28,7 +28,7 @@ use Rattle.fields.specs.Write.{Writing, fieldBytes, writeField, writing,
 use Rattle.fields.proofs.Digits.{length-pack}
 use Rattle.fields.proofs.Packing.{Fit, cap, fit-unpack, pack-unpack, unpack-pack}
 use Rattle.fields.proofs.Passing.{Passes, all-pass, all-passed, every-cut, every-join}
-use Rattle.fields.proofs.Writing.{length-fieldBytes, refused, roomTest, wrote}
+use Rattle.fields.proofs.Writing.{length-fieldBytes, length-most, refused, roomTest, writes, wrote}
 
 -- a field whose bytes read as that very field
 pub record Readable (f : Field) : Type 0 where
@@ -36,7 +36,7 @@ pub record Readable (f : Field) : Type 0 where
   pub fit : Fit (widthsOf (rowOf (f .tag))) (numbersOf f)
   pub right : Every Passes (valueChecks (rowOf (f .tag)) f)
 
--- ---- a tag and a length are small
+-- ---- a tag is small
 tag-small : (tag : ℕ) → isTag tag ≡ true → tag < 14
 unfolding isTag
 tag-small tag e = ltb-true tag 14 (right-of (ltb 0 tag) (ltb tag 14) e)
@@ -44,16 +44,6 @@ tag-small tag e = ltb-true tag 14 (right-of (ltb 0 tag) (ltb tag 14) e)
     right-of : (a b : Bool) → a && b ≡ true → b ≡ true
     right-of true b e = e
     right-of false b e = absurd (false≢true e)
-
-width-most : (there : Bool) (width : ℕ) → widthIf there width ≤ width
-width-most true width = omega arith
-width-most false width = omega arith
-
-length-small : (tag : ℕ) → lengthOf tag ≤ 10
-unfolding lengthOf widthsOf
-length-small tag =
-    let r = rowOf tag in
-    omega (arith, width-most (isPresent (r .0)) 1, width-most (isPresent (r .1)) 1, width-most (isPresent (r .2)) 1, width-most (r .3) 2, width-most (r .4) 4)
 
 -- ---- written, then read
 read-whole : (x y z : ℕ) (v : List ℕ) (f : Field) → isTag x ≡ true → y + 256 * z ≡ lengthOf x → lengthOf x ≤ length v
@@ -71,7 +61,7 @@ bytes-shape : (f : Field) → isTag (f .tag) ≡ true → fieldBytes f ≡ f .ta
 unfolding fieldBytes
 bytes-shape f known =
     let t = tag-small (f .tag) known in
-    let n = length-small (f .tag) in
+    let n = length-most (f .tag) in
     let tag : f .tag % 256 ≡ f .tag = omega arith in
     let low : lengthOf (f .tag) % 256 ≡ lengthOf (f .tag) = omega arith in
     let high : lengthOf (f .tag) / 256 % 256 ≡ 0 = omega arith in
@@ -130,12 +120,6 @@ back s f b e =
     by (x ∷ y ∷ []) b p q = absurd (short 2 (omega arith) (p .0))
     by (x ∷ y ∷ z ∷ v) b p q = back-at x y z v b p q
 
-writes : (f : Field) (out : List ℕ) → Readable f → length (fieldBytes f) ≤ length out → writeField f out ≡ wrote f out
-unfolding writeField
-writes f out R room =
-    all-pass (refused f out) (wrote f out) (writingChecks f (length out))
-    (R .tag, every-join Passes (valueChecks (rowOf (f .tag)) f) (roomTest f out) (R .right) (le-leb (length (fieldBytes f)) (length out) room, tt))
-
 -- what reads as a field writes back to the very bytes that were read, in any output with room for them
 pub read-then-written : (s out : List ℕ) (f : Field) → AreBytes s → readField s ≡ Got f → 3 + lengthOf (f .tag) ≤ length out
     → writeField f out ≡ writing (Bytes (3 + lengthOf (f .tag))) (take (3 + lengthOf (f .tag)) s ++ drop (3 + lengthOf (f .tag)) out)
@@ -143,7 +127,7 @@ read-then-written s out f b e room =
     let n = length-fieldBytes f in
     let p = back s f b e in
     let same : take (length (fieldBytes f)) s ≡ fieldBytes f = rw (p .1) (take-append-seam (fieldBytes f) (drop (3 + lengthOf (f .tag)) s)) in
-    rw (← n, same) (writes f out (p .0) (omega arith))
+    rw (← n, same) (writes f out (p .0 .tag) (p .0 .right) (omega arith))
 
 -- ---- the numbers that a row lacks are ignored: a field and itself are written alike, and checked alike
 to-present : (w n : ℕ) → toBytes w (cond (eqb w 0) 0 n) ≡ toBytes w n

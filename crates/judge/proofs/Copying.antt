@@ -1,7 +1,6 @@
 -- The copy of one field, as it is written over the output, and what is left to be copied.
 -- Assumes nothing.
 use Prim.Native.Nat.{ℕ, suc, _+_, _-_, _<_, _≤_}
-use borrow.Author.Tests.{le-leb}
 use lib.Dec.{ltb}
 use lib.ListN.{drop, drop-of-length-le, length, length-append, length-drop, take}
 use lib.Seq.{drop-append-add, drop-drop, length-take-le, take-at}
@@ -10,8 +9,8 @@ use mathlib.Core.List.{List, [], _∷_, _++_, append-assoc, append-nil}
 use mathlib.Core.Path.{_≡_, refl, ap, sym, _∙_}
 use native.Mathlib.Nat.{not-suc-le-zero}
 use native.Mathlib.Omega.{arith}
-use Rattle.fields.proofs.Passing.{Passes, all-pass, every-join}
-use Rattle.fields.proofs.Writing.{length-fieldBytes, refused, roomTest, wrote}
+use Rattle.fields.proofs.Passing.{Passes}
+use Rattle.fields.proofs.Writing.{length-fieldBytes, writes}
 use Rattle.fields.specs.declared.Field.{Field}
 use Rattle.fields.specs.declared.Read.the-variants.{Got, Refused}
 use Rattle.fields.specs.declared.Refusal.{Refusal}
@@ -21,8 +20,8 @@ use Rattle.fields.specs.Checks.{isCell, valueChecks}
 use Rattle.fields.specs.Every.{Every}
 use Rattle.fields.specs.Limits.{cells, headerBytes}
 use Rattle.fields.specs.Read.{readField}
-use Rattle.fields.specs.Rows.{isTag, lengthOf, rowOf}
-use Rattle.fields.specs.Write.{Writing, fieldBytes, writeField, writing, writingChecks}
+use Rattle.fields.specs.Rows.{lengthOf, rowOf}
+use Rattle.fields.specs.Write.{Writing, fieldBytes, writeField, writing}
 use Rattle.rules.proofs.Tallies.{counted}
 use Rattle.rules.specs.declared.Answer.{Answer}
 use Rattle.rules.specs.declared.Answer.the-variants.{Go, Race, Refuse}
@@ -69,12 +68,6 @@ module _ (s : State) (f : Field) (right : Every Passes (valueChecks (rowOf (f .t
 
   copy-right : check (actOf f) s ≡ Go → Every Passes (valueChecks (rowOf (f .tag)) (copyField s (nextCell s) f))
   copy-right e = right-by (actOf f .change) (room-left (actOf f .guard) (actOf f .change) s e)
-
-writes : (f : Field) (out : List ℕ) → isTag (f .tag) ≡ true → Every Passes (valueChecks (rowOf (f .tag)) f) → length (fieldBytes f) ≤ length out → writeField f out ≡ wrote f out
-unfolding writeField
-writes f out known right room =
-    all-pass (refused f out) (wrote f out) (writingChecks f (length out))
-    (known, every-join Passes (valueChecks (rowOf (f .tag)) f) (roomTest f out) right (le-leb (length (fieldBytes f)) (length out) room, tt))
 
 -- ---- bytes written at a place of an output
 module _ (out bytes : List ℕ) (at : ℕ) (room : at + length bytes ≤ length out) where
