@@ -15,20 +15,20 @@ pub every-join : {A : Type 0} (P : A → Type 0) (l m : List A) → Every P l �
 every-join P [] m e f = f
 every-join P (x ∷ l) m e f = (e .0, every-join P l m (e .1) f)
 
--- ---- one test: what holds of both answers
+-- ---- one test: what holds of both answers, and what an answer that only one of them gives says
 pub either {ℓ} : {A : Type 0} (P : A → Type ℓ) (b : Bool) {x y : A} → P x → P y → P (cond b x y)
 either P true p q = p
 either P false p q = q
+
+pub taken : {A : Type 0} (b : Bool) (x y end : A) → (y ≡ end → ⊥) → cond b x y ≡ end → (b ≡ true) × (x ≡ end)
+taken true x y end n e = (refl, e)
+taken false x y end n e = absurd (n e)
 
 -- ---- tests in order
 abbrev pub Passes : {A : Type 0} → Test A → Type 0
 Passes t = t .passes ≡ true
 
 module _ {A B : Type 0} (stop : A → B) (done : B) where
-  taken : (b : Bool) (x y end : B) → (y ≡ end → ⊥) → cond b x y ≡ end → (b ≡ true) × (x ≡ end)
-  taken true x y end n e = (refl, e)
-  taken false x y end n e = absurd (n e)
-
   -- an answer that no test gives says that every test passed
   pub all-passed : (ts : List (Test A)) (end : B) → ((x : A) → stop x ≡ end → ⊥) → inOrder stop done ts ≡ end → Every Passes ts × (done ≡ end)
   all-passed [] end n e = (tt, e)

@@ -4,7 +4,7 @@ use Prim.Native.Nat.{ℕ, suc, _+_, _-_, _<_, _≤_}
 use lib.Dec.{ltb}
 use lib.ListN.{drop, drop-of-length-le, length, length-append, length-drop, take}
 use lib.Seq.{drop-append-add, drop-drop, length-take-le, take-at}
-use mathlib.Core.Bool.{Bool, true, false, cond}
+use mathlib.Core.Bool.{Bool, true, false}
 use mathlib.Core.List.{List, [], _∷_, _++_, append-assoc, append-nil}
 use mathlib.Core.Path.{_≡_, refl, ap, sym, _∙_}
 use native.Mathlib.Nat.{not-suc-le-zero}
@@ -14,7 +14,6 @@ use Rattle.fields.proofs.Writing.{length-fieldBytes, writes}
 use Rattle.fields.specs.declared.Field.{Field}
 use Rattle.fields.specs.declared.Read.the-variants.{Got, Refused}
 use Rattle.fields.specs.declared.Refusal.{Refusal}
-use Rattle.fields.specs.declared.Refusal.the-variants.{TooManyMallocs}
 use Rattle.fields.specs.declared.Written.{Written}
 use Rattle.fields.specs.Checks.{isCell, valueChecks}
 use Rattle.fields.specs.Every.{Every}
@@ -22,14 +21,14 @@ use Rattle.fields.specs.Limits.{cells, headerBytes}
 use Rattle.fields.specs.Read.{readField}
 use Rattle.fields.specs.Rows.{lengthOf, rowOf}
 use Rattle.fields.specs.Write.{Writing, fieldBytes, writeField, writing}
+use Rattle.rules.proofs.Passed.{Clear, passed}
 use Rattle.rules.proofs.Tallies.{counted}
 use Rattle.rules.specs.declared.Answer.{Answer}
 use Rattle.rules.specs.declared.Answer.the-variants.{Go, Race, Refuse}
 use Rattle.rules.specs.declared.Change.{Change}
 use Rattle.rules.specs.declared.Change.the-variants.{Stay, Allocate, Release, Move, Put}
-use Rattle.rules.specs.declared.Guard.{Guard}
 use Rattle.rules.specs.Acts.{gives}
-use Rattle.rules.specs.Check.{check, checkBy, roomFor}
+use Rattle.rules.specs.Check.{check, roomFor}
 use Rattle.rules.specs.Commands.{actOf}
 use Rattle.rules.specs.Effect.{effect}
 use Rattle.rules.specs.Replay.{copyChange, copyField, nextCell, recast}
@@ -40,26 +39,13 @@ use Rattle.judge.specs.Runs.{runFrom}
 use Rattle.judge.specs.Steps.{Step, stepOf}
 use Rattle.judge.proofs.Running.{got-passed, part, run-got, run-refused, some-left}
 
--- ---- a command that goes has a malloc left for the cell that it gives out
-room-by : (b : Bool) (later : Answer) → cond b later (Refuse TooManyMallocs) ≡ Go → b ≡ true
-room-by true later e = refl
-room-by false later e = absurd (let z : _≡_ {A = ℕ} 0 1 = cc in omega arith)
-
-room-left : (g : Guard) (c : Change) (s : State) → check (record { guard = g; change = c }) s ≡ Go → Every (λ r. roomFor s r ≡ true) (gives c)
-unfolding checkBy
-room-left g Stay s e = tt
-room-left g (Allocate p c d) s e = (room-by (roomFor s c) _ e, tt)
-room-left g (Release p) s e = tt
-room-left g (Move x y) s e = tt
-room-left g (Put x v) s e = tt
-
--- ---- so its copy passes the checks that the field passed
+-- ---- a command that goes has a malloc left for the cell that it gives out, so its copy passes the checks that the field passed
 cell-right : (there : Bool) (c : ℕ) → ltb c cells ≡ true → isCell there c ≡ true
 cell-right true c h = h
 cell-right false c h = refl
 
 module _ (s : State) (f : Field) (right : Every Passes (valueChecks (rowOf (f .tag)) f)) where
-  right-by : (c : Change) → Every (λ r. roomFor s r ≡ true) (gives c) → Every Passes (valueChecks (rowOf (f .tag)) (recast (copyChange s (nextCell s) c) f))
+  right-by : (c : Change) → Clear (roomFor s) (gives c) → Every Passes (valueChecks (rowOf (f .tag)) (recast (copyChange s (nextCell s) c) f))
   right-by Stay h = right
   right-by (Allocate p c d) h = (right .0, (right .1 .0, (right .1 .1 .0, (cell-right (rowOf (f .tag) .3) (s .mallocs) (h .0), tt))))
   right-by (Release p) h = right
@@ -67,7 +53,7 @@ module _ (s : State) (f : Field) (right : Every Passes (valueChecks (rowOf (f .t
   right-by (Put x v) h = right
 
   copy-right : check (actOf f) s ≡ Go → Every Passes (valueChecks (rowOf (f .tag)) (copyField s (nextCell s) f))
-  copy-right e = right-by (actOf f .change) (room-left (actOf f .guard) (actOf f .change) s e)
+  copy-right e = right-by (actOf f .change) (passed (actOf f) s e .room)
 
 -- ---- bytes written at a place of an output
 module _ (out bytes : List ℕ) (at : ℕ) (room : at + length bytes ≤ length out) where

@@ -17,10 +17,10 @@ use Rattle.rules.specs.declared.Answer.the-variants.{Go, Race, Refuse}
 use Rattle.rules.specs.State.{State}
 use Rattle.rules.specs.Acts.{gives, through, touched}
 use Rattle.rules.specs.Check.{check, checkBy, each, points, roomFor, vacant, valid}
+use Rattle.rules.proofs.Passed.{guardTests, roomTests, setTests, vacancyTests}
 use Rattle.theorems.specs.Paper.{Com, Computation, NotValid, PExp, PointerRace, pointerVar, validIn}
 use Rattle.theorems.specs.Beside.{Says, Shows, says-apart, says-constant, says-copy, says-equal, says-free, says-load, says-malloc, says-read, says-same, says-store, says-sum, says-unequal, says-write}
 use Rattle.theorems.proofs.Basics.{split}
-use Rattle.theorems.proofs.Passed.{guards, rooms, sets, vacants}
 
 -- some variable of a list is not valid
 abbrev pub SomeInvalid : State → List ℕ → Type 0
@@ -72,23 +72,23 @@ module _ (a : Act) (s : State) where
   races = each (valid s) Race (touched a)
 
   abbrev pub others : List (Test Answer)
-  others = sets a s ++ (vacants a s ++ guards a s)
+  others = setTests a s ++ (vacancyTests a s ++ guardTests a s)
 
   others-raceless : Every Raceless others
   others-raceless =
-      every-join Raceless (sets a s) (vacants a s ++ guards a s) (each-raceless (points s) UnsetPointer (through (a .change)))
-      (every-join Raceless (vacants a s) (guards a s) (each-raceless (vacant s) LiveCell (gives (a .change))) (refusal-raceless AssertionFails, tt))
+      every-join Raceless (setTests a s) (vacancyTests a s ++ guardTests a s) (each-raceless (points s) UnsetPointer (through (a .change)))
+      (every-join Raceless (vacancyTests a s) (guardTests a s) (each-raceless (vacant s) LiveCell (gives (a .change))) (refusal-raceless AssertionFails, tt))
 
   -- what the checks come to: the tests for room, then the races, then the others
-  pub check-parts : check a s ≡ inOrder (λ answer. answer) (inOrder (λ answer. answer) (inOrder (λ answer. answer) Go others) races) (rooms a s)
+  pub check-parts : check a s ≡ inOrder (λ answer. answer) (inOrder (λ answer. answer) (inOrder (λ answer. answer) Go others) races) (roomTests a s)
   unfolding checkBy
-  check-parts = in-order-append (λ answer. answer) Go (rooms a s) (races ++ others) ∙ ap (λ (done : Answer). inOrder (λ answer. answer) done (rooms a s)) (in-order-append (λ answer. answer) Go races others)
+  check-parts = in-order-append (λ answer. answer) Go (roomTests a s) (races ++ others) ∙ ap (λ (done : Answer). inOrder (λ answer. answer) done (roomTests a s)) (in-order-append (λ answer. answer) Go races others)
 
   -- a race is said by the tests for races alone
   by-races : (v : ℕ) → check a s ≡ Race v → (inOrder (λ answer. answer) Go others ≡ Race v → ⊥) × (inOrder (λ answer. answer) (inOrder (λ answer. answer) Go others) races ≡ Race v)
   by-races v e = (
     (λ q. let z : Go ≡ Race v = after-raceless others Go v others-raceless q in let y : _≡_ {A = ℕ} 0 1 = cc in omega arith),
-    after-raceless (rooms a s) (inOrder (λ answer. answer) (inOrder (λ answer. answer) Go others) races) v (each-raceless (roomFor s) TooManyMallocs (gives (a .change))) (sym check-parts ∙ e),
+    after-raceless (roomTests a s) (inOrder (λ answer. answer) (inOrder (λ answer. answer) Go others) races) v (each-raceless (roomFor s) TooManyMallocs (gives (a .change))) (sym check-parts ∙ e),
   )
 
   race-touched : (v : ℕ) → check a s ≡ Race v → SomeInvalid s (touched a)
@@ -100,7 +100,7 @@ module _ (a : Act) (s : State) where
   touched-race : gives (a .change) ≡ [] → SomeInvalid s (touched a) → (v : ℕ) × (check a s ≡ Race v)
   touched-race none i = let r = in-race s (touched a) (inOrder (λ answer. answer) Go others) i in (r .0, check-parts ∙ no-rooms ∙ r .1)
     where
-      no-rooms : {done : Answer} → inOrder (λ answer. answer) done (rooms a s) ≡ done
+      no-rooms : {done : Answer} → inOrder (λ answer. answer) done (roomTests a s) ≡ done
       no-rooms = rw none refl
 
 -- ---- Definition 2 names the variables that are looked at

@@ -5,19 +5,19 @@ use mathlib.Core.Path.{_≡_, refl}
 use mathlib.Core.Bool.{Bool, false, true}
 use mathlib.Core.List.{List, [], _++_, _∷_}
 use native.Mathlib.Omega.{arith}
+use borrow.Author.Tests.{not-true}
 use Rattle.fields.specs.declared.Refusal.{Refusal}
 use Rattle.fields.specs.declared.Refusal.the-variants.{AssertionFails, LiveCell, TooManyMallocs, UnsetPointer}
 use Rattle.fields.specs.Every.{Every}
 use Rattle.fields.specs.Order.{Test, inOrder, test}
-use Rattle.fields.proofs.Passing.{Passes, all-pass, every-cut, every-join}
+use Rattle.fields.proofs.Passing.{Passes, all-pass, every-cut, every-join, taken}
 use Rattle.rules.specs.declared.Act.{Act}
 use Rattle.rules.specs.declared.Answer.{Answer}
 use Rattle.rules.specs.declared.Answer.the-variants.{Go, Race, Refuse}
 use Rattle.rules.specs.Words.{isUnset, isValid}
 use Rattle.rules.specs.State.{State, pointer}
 use Rattle.rules.specs.Acts.{compared, frees, gives, through, touched}
 use Rattle.rules.specs.Check.{check, checkBy, each, holds, points, roomFor, vacant, valid}
-use Rattle.theorems.proofs.Basics.{not-true, split}
 
 -- ---- tests that say something else than Go where they do not pass
 abbrev pub Stops : Test Answer → Type 0
@@ -25,9 +25,9 @@ Stops t = t .says ≡ Go → ⊥
 
 went : (ts : List (Test Answer)) → Every Stops ts → inOrder (λ answer. answer) Go ts ≡ Go → Every Passes ts
 went [] n e = tt
-went (t ∷ ts) n e = split (t .passes)
-    (λ p. (p, went ts (n .1) (rw p at e)))
-    (λ p. absurd (n .0 (rw p at e)))
+went (t ∷ ts) n e =
+    let p = taken (t .passes) (inOrder (λ answer. answer) Go ts) (t .says) Go (n .0) e in
+    (p .0, went ts (n .1) (p .1))
 
 race-stops : (v : ℕ) → Race v ≡ Go → ⊥
 race-stops v e = let z : _≡_ {A = ℕ} 0 1 = cc in omega arith
@@ -64,31 +64,31 @@ pub record PassedBy (races : List (Test Answer)) (a : Act) (s : State) : Type 0 
   pub holding : holds s (a .guard) ≡ true
 
 -- the tests around the races, as checkBy has them
-abbrev pub rooms : Act → State → List (Test Answer)
-rooms a s = each (roomFor s) (λ c. Refuse TooManyMallocs) (gives (a .change))
+abbrev pub roomTests : Act → State → List (Test Answer)
+roomTests a s = each (roomFor s) (λ c. Refuse TooManyMallocs) (gives (a .change))
 
-abbrev pub sets : Act → State → List (Test Answer)
-sets a s = each (points s) (λ p. Refuse UnsetPointer) (through (a .change))
+abbrev pub setTests : Act → State → List (Test Answer)
+setTests a s = each (points s) (λ p. Refuse UnsetPointer) (through (a .change))
 
-abbrev pub vacants : Act → State → List (Test Answer)
-vacants a s = each (vacant s) (λ c. Refuse LiveCell) (gives (a .change))
+abbrev pub vacancyTests : Act → State → List (Test Answer)
+vacancyTests a s = each (vacant s) (λ c. Refuse LiveCell) (gives (a .change))
 
-abbrev pub guards : Act → State → List (Test Answer)
-guards a s = test (holds s (a .guard)) (Refuse AssertionFails) ∷ []
+abbrev pub guardTests : Act → State → List (Test Answer)
+guardTests a s = test (holds s (a .guard)) (Refuse AssertionFails) ∷ []
 
 pub passedBy : (races : List (Test Answer)) (a : Act) (s : State) → Every Stops races → checkBy races a s ≡ Go → PassedBy races a s
 unfolding checkBy
 passedBy races a s stops e =
-    let all = rooms a s ++ (races ++ (sets a s ++ (vacants a s ++ guards a s))) in
+    let all = roomTests a s ++ (races ++ (setTests a s ++ (vacancyTests a s ++ guardTests a s))) in
     let speaking : Every Stops all =
-    every-join Stops (rooms a s) (races ++ (sets a s ++ (vacants a s ++ guards a s))) (each-stops (roomFor s) (λ c. Refuse TooManyMallocs) (gives (a .change)) (λ c. refusal-stops TooManyMallocs))
-    (every-join Stops races (sets a s ++ (vacants a s ++ guards a s)) stops
-    (every-join Stops (sets a s) (vacants a s ++ guards a s) (each-stops (points s) (λ p. Refuse UnsetPointer) (through (a .change)) (λ p. refusal-stops UnsetPointer))
-    (every-join Stops (vacants a s) (guards a s) (each-stops (vacant s) (λ c. Refuse LiveCell) (gives (a .change)) (λ c. refusal-stops LiveCell)) (refusal-stops AssertionFails, tt)))) in
-    let p = every-cut Passes (rooms a s) (races ++ (sets a s ++ (vacants a s ++ guards a s))) (went all speaking e) in
-    let q = every-cut Passes races (sets a s ++ (vacants a s ++ guards a s)) (p .1) in
-    let r = every-cut Passes (sets a s) (vacants a s ++ guards a s) (q .1) in
-    let t = every-cut Passes (vacants a s) (guards a s) (r .1) in
+    every-join Stops (roomTests a s) (races ++ (setTests a s ++ (vacancyTests a s ++ guardTests a s))) (each-stops (roomFor s) (λ c. Refuse TooManyMallocs) (gives (a .change)) (λ c. refusal-stops TooManyMallocs))
+    (every-join Stops races (setTests a s ++ (vacancyTests a s ++ guardTests a s)) stops
+    (every-join Stops (setTests a s) (vacancyTests a s ++ guardTests a s) (each-stops (points s) (λ p. Refuse UnsetPointer) (through (a .change)) (λ p. refusal-stops UnsetPointer))
+    (every-join Stops (vacancyTests a s) (guardTests a s) (each-stops (vacant s) (λ c. Refuse LiveCell) (gives (a .change)) (λ c. refusal-stops LiveCell)) (refusal-stops AssertionFails, tt)))) in
+    let p = every-cut Passes (roomTests a s) (races ++ (setTests a s ++ (vacancyTests a s ++ guardTests a s))) (went all speaking e) in
+    let q = every-cut Passes races (setTests a s ++ (vacancyTests a s ++ guardTests a s)) (p .1) in
+    let r = every-cut Passes (setTests a s) (vacancyTests a s ++ guardTests a s) (q .1) in
+    let t = every-cut Passes (vacancyTests a s) (guardTests a s) (r .1) in
     record {
       room = each-clear (roomFor s) (λ c. Refuse TooManyMallocs) (gives (a .change)) (p .0);
       raceless = q .0;
@@ -100,11 +100,11 @@ passedBy races a s stops e =
 pub passBy : (races : List (Test Answer)) (a : Act) (s : State) → PassedBy races a s → checkBy races a s ≡ Go
 unfolding checkBy
 passBy races a s p =
-    all-pass (λ answer. answer) Go (rooms a s ++ (races ++ (sets a s ++ (vacants a s ++ guards a s))))
-    (every-join Passes (rooms a s) (races ++ (sets a s ++ (vacants a s ++ guards a s))) (clear-each (roomFor s) (λ c. Refuse TooManyMallocs) (gives (a .change)) (p .room))
-    (every-join Passes races (sets a s ++ (vacants a s ++ guards a s)) (p .raceless)
-    (every-join Passes (sets a s) (vacants a s ++ guards a s) (clear-each (points s) (λ p. Refuse UnsetPointer) (through (a .change)) (p .pointing))
-    (every-join Passes (vacants a s) (guards a s) (clear-each (vacant s) (λ c. Refuse LiveCell) (gives (a .change)) (p .unlive)) (p .holding, tt)))))
+    all-pass (λ answer. answer) Go (roomTests a s ++ (races ++ (setTests a s ++ (vacancyTests a s ++ guardTests a s))))
+    (every-join Passes (roomTests a s) (races ++ (setTests a s ++ (vacancyTests a s ++ guardTests a s))) (clear-each (roomFor s) (λ c. Refuse TooManyMallocs) (gives (a .change)) (p .room))
+    (every-join Passes races (setTests a s ++ (vacancyTests a s ++ guardTests a s)) (p .raceless)
+    (every-join Passes (setTests a s) (vacancyTests a s ++ guardTests a s) (clear-each (points s) (λ p. Refuse UnsetPointer) (through (a .change)) (p .pointing))
+    (every-join Passes (vacancyTests a s) (guardTests a s) (clear-each (vacant s) (λ c. Refuse LiveCell) (gives (a .change)) (p .unlive)) (p .holding, tt)))))
 
 -- ---- the checks with marks
 abbrev pub Passed : Act → State → Type 0
