@@ -1,6 +1,6 @@
 -- `capi::fronts::put_front` meets its contract. The invariant: storing what is left gives what storing it all gave.
 use Prim.Native.Nat.{_-_, _≤_}
-use Rattle.capi.proofs.Storing.{front-end, front-step}
+use Rattle.fields.proofs.Lists.{stored-end, stored-step}
 use borrow.Author.Needs.{needs}
 use lib.ListN.{drop, length}
 use lib.Seq.{sets}
@@ -36,13 +36,13 @@ loop-less : tie.Need-loop-less Inv-loop μ-loop
 loop-less c = search needs
 
 loop-again : tie.Need-loop-again Inv-loop μ-loop
-loop-again c = (search needs, front-step (c .before .before .loop .list) (c .before .before .before .args .new .now) (c .before .before .loop .i) (c .before .loop-test .taken) ∙ c .before .before .loop .inv .1)
+loop-again c = (search needs, stored-step (c .before .before .loop .list) (c .before .before .before .args .new .now) (c .before .before .loop .i) (c .before .loop-test .taken) ∙ c .before .before .loop .inv .1)
 
 same-length : tie.Need-same-length Inv-loop μ-loop
 same-length c = search needs
 
 returns : tie.Need-returns Inv-loop μ-loop
-returns c = front-end (c .before .before .args .list .now) (c .before .loop .list) (c .before .before .args .new .now) (c .before .loop .i) (c .before .before .pre) (c .loop-test .left) (c .before .loop .inv .1)
+returns c = stored-end (c .before .before .args .list .now) (c .before .loop .list) (c .before .before .args .new .now) (c .before .loop .i) (c .before .before .pre) (c .loop-test .left) (c .before .loop .inv .1)
 
 pub put-front-spec : {M : Type 1} → statement M
 put-front-spec =

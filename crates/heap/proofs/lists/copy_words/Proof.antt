@@ -1,6 +1,7 @@
 -- `heap::lists::copy_words` meets its contract. The invariant: storing what is left gives what storing it all gave.
 use Prim.Native.Nat.{_-_, _≤_}
-use Rattle.heap.proofs.Along.{copy-end, copy-step}
+use Rattle.fields.proofs.Lists.{stored-step}
+use Rattle.heap.proofs.Along.{copy-end}
 use borrow.Author.Needs.{needs}
 use borrow.Author.Tests.{lt-leb}
 use lib.ListN.{drop, length}
@@ -40,7 +41,7 @@ loop-less : tie.Need-loop-less Inv-loop μ-loop
 loop-less c = search needs
 
 loop-again : tie.Need-loop-again Inv-loop μ-loop
-loop-again c = ((search needs, search needs), copy-step (c .before .loop .words) (c .before .before .before .args .t2) (c .before .loop .i) (search needs) ∙ c .before .loop .inv .1)
+loop-again c = ((search needs, search needs), stored-step (c .before .loop .words) (c .before .before .before .args .t2) (c .before .loop .i) (search needs) ∙ c .before .loop .inv .1)
 
 same-length : tie.Need-same-length Inv-loop μ-loop
 same-length c = search needs
