@@ -1,38 +1,21 @@
--- A verdict's numbers out of the arrays that hold them, and what the calls that judge and replay leave.
+-- What the calls that judge and replay a log leave.
 -- Assumes nothing.
 use Prim.Native.Nat.{ℕ, _≤_}
 use borrow.Author.Tests.{leb-true}
 use lib.Dec.{leb}
-use lib.ListN.{length, take}
+use lib.ListN.{length}
 use mathlib.Core.Bool.{Bool, true, false, _&&_}
 use mathlib.Core.List.{List}
 use mathlib.Core.Path.{_≡_, ap, refl}
 use native.Mathlib.Omega.{arith}
 use Rattle.judge.specs.Judges.{Judges}
 use Rattle.judge.specs.Replays.{Replays}
-use Rattle.rules.specs.declared.Printed.{Printed}
 use Rattle.rules.specs.declared.Tally.{Tally}
 use Rattle.rules.specs.declared.Verdict.{Verdict}
-use Rattle.rules.specs.declared.Verdict.the-variants.{Accepted, Raced, Refused}
 use Rattle.rules.specs.Judging.{Judged}
 use Rattle.rules.specs.Replaying.{Replayed}
-use Rattle.rules.specs.Verdicts.{lineOf, printedOf}
 use Rattle.capi.specs.Judging.{Tells, answerPlaces, hasRoom, judgeCall, left, noRoom, tallyIn, tallyPlaces, told}
 use Rattle.capi.specs.Replaying.{replayCall, replayLeft}
-
--- ---- the numbers that count
-pub record Counted (v : Verdict) (p : Printed) : Type 0 where
-  pub held : p .count ≤ length (p .numbers)
-  pub few : p .count ≤ answerPlaces
-  pub same : take (p .count) (p .numbers) ≡ lineOf v .numbers
-
-counted-of : (v : Verdict) → Counted v (printedOf v)
-counted-of (Accepted fields mallocs live) = record { held = omega arith; few = omega arith; same = refl }
-counted-of (Raced field thread variable) = record { held = omega arith; few = omega arith; same = refl }
-counted-of (Refused r field) = record { held = omega arith; few = omega arith; same = refl }
-
-pub counted : (v : Verdict) (p : Printed) → p ≡ printedOf v → Counted v p
-counted v p e = rw e (counted-of v)
 
 -- ---- room in the tally and the answer
 both : (a b : Bool) → (a && b) ≡ true → (a ≡ true) × (b ≡ true)

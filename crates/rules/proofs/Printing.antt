@@ -1,22 +1,24 @@
--- A verdict's word and numbers fit the arrays that hold them.
+-- A verdict's word and numbers fit the arrays that hold them, and the numbers that count are the verdict's.
 -- Assumes nothing.
-use mathlib.Core.Path.{_≡_}
+use mathlib.Core.Path.{_≡_, refl}
 use Prim.Native.Nat.{_≤_}
 use native.Mathlib.Omega.{arith}
-use lib.ListN.{length}
+use lib.ListN.{length, take}
 use Rattle.rules.specs.declared.Printed.{Printed}
 use Rattle.rules.specs.declared.Verdict.{Verdict}
 use Rattle.rules.specs.declared.Verdict.the-variants.{Accepted, Raced, Refused}
-use Rattle.rules.specs.Verdicts.{printedOf}
+use Rattle.rules.specs.Verdicts.{lineOf, printedOf}
 
-pub record Fits (p : Printed) : Type 0 where
+pub record Fits (v : Verdict) (p : Printed) : Type 0 where
   pub letters : p .letters ≤ length (p .word)
   pub numbers : p .count ≤ 3
+  pub held : p .count ≤ length (p .numbers)
+  pub same : take (p .count) (p .numbers) ≡ lineOf v .numbers
 
-fits-of : (v : Verdict) → Fits (printedOf v)
-fits-of (Accepted fields mallocs live) = record { letters = omega arith; numbers = omega arith }
-fits-of (Raced field thread variable) = record { letters = omega arith; numbers = omega arith }
-fits-of (Refused r field) = record { letters = omega arith; numbers = omega arith }
+fits-of : (v : Verdict) → Fits v (printedOf v)
+fits-of (Accepted fields mallocs live) = record { letters = omega arith; numbers = omega arith; held = omega arith; same = refl }
+fits-of (Raced field thread variable) = record { letters = omega arith; numbers = omega arith; held = omega arith; same = refl }
+fits-of (Refused r field) = record { letters = omega arith; numbers = omega arith; held = omega arith; same = refl }
 
-pub fits : (v : Verdict) (p : Printed) → p ≡ printedOf v → Fits p
+pub fits : (v : Verdict) (p : Printed) → p ≡ printedOf v → Fits v p
 fits v p e = rw e (fits-of v)

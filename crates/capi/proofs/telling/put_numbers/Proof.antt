@@ -1,7 +1,7 @@
 -- `capi::telling::put_numbers` meets its contract.
 use Prim.Native.Nat.{ℕ}
-use Rattle.capi.proofs.Calls.{counted}
 use Rattle.capi.specs.Fronts.{front}
+use Rattle.rules.proofs.Printing.{fits}
 use borrow.Author.Needs.{needs}
 use lib.Seq.{length-take-le}
 use mathlib.Core.List.{List}
@@ -14,24 +14,24 @@ printed-requires : tie.Need-printed-requires
 printed-requires c κs = search needs
 
 array-share-prefix-numbers : tie.Need-array-share-prefix-numbers
-array-share-prefix-numbers c = counted (c .before .before .before .before .args .verdict) (c .before .before .printed .result) (c .before .before .printed .ensures) .held
+array-share-prefix-numbers c = fits (c .before .before .before .before .args .verdict) (c .before .before .printed .result) (c .before .before .printed .ensures) .held
 
 slice-aggregate-put-front : tie.Need-slice-aggregate-put-front
 slice-aggregate-put-front c =
     let p = c .before .before .before .printed .result in
-    sym (length-take-le (p .count) (p .numbers) (counted (c .before .before .before .before .before .args .verdict) p (c .before .before .before .printed .ensures) .held))
+    sym (length-take-le (p .count) (p .numbers) (fits (c .before .before .before .before .before .args .verdict) p (c .before .before .before .printed .ensures) .held))
 
 put-front-requires : tie.Need-put-front-requires
 put-front-requires c κs =
     let p = c .before .before .before .printed .result in
-    let fits = counted (c .before .before .before .before .before .args .verdict) p (c .before .before .before .printed .ensures) in
-    omega (arith, length-take-le (p .count) (p .numbers) (fits .held), c .before .before .before .before .before .pre)
+    let room = fits (c .before .before .before .before .before .args .verdict) p (c .before .before .before .printed .ensures) in
+    omega (arith, length-take-le (p .count) (p .numbers) (room .held), c .before .before .before .before .before .pre)
 
 same-length : tie.Need-same-length
 same-length c = search needs
 
 returns : tie.Need-returns
-returns c = c .before .before .put-front .ensures ∙ ap (λ (l : List ℕ). front l (c .before .before .before .before .before .before .before .before .args .answer .now)) (counted (c .before .before .before .before .before .before .before .before .args .verdict) (c .before .before .before .before .before .before .printed .result) (c .before .before .before .before .before .before .printed .ensures) .same)
+returns c = c .before .before .put-front .ensures ∙ ap (λ (l : List ℕ). front l (c .before .before .before .before .before .before .before .before .args .answer .now)) (fits (c .before .before .before .before .before .before .before .before .args .verdict) (c .before .before .before .before .before .before .printed .result) (c .before .before .before .before .before .before .printed .ensures) .same)
 
 pub put-numbers-spec : {M : Type 1} → statement M
 put-numbers-spec =
