@@ -4,10 +4,9 @@ use Prim.Native.Nat.{ℕ, _≤_}
 use borrow.Author.Tests.{leb-true}
 use lib.Dec.{leb}
 use lib.ListN.{length}
-use mathlib.Core.Bool.{Bool, true, false, _&&_}
+use mathlib.Core.Bool.{true, false, and-eq-true-iff}
 use mathlib.Core.List.{List}
-use mathlib.Core.Path.{_≡_, ap, refl}
-use native.Mathlib.Omega.{arith}
+use mathlib.Core.Path.{_≡_, ap}
 use Rattle.judge.specs.Judges.{Judges}
 use Rattle.judge.specs.Replays.{Replays}
 use Rattle.rules.specs.declared.Tally.{Tally}
@@ -18,13 +17,9 @@ use Rattle.capi.specs.Judging.{Tells, answerPlaces, hasRoom, judgeCall, 
 use Rattle.capi.specs.Replaying.{replayCall, replayLeft}
 
 -- ---- room in the tally and the answer
-both : (a b : Bool) → (a && b) ≡ true → (a ≡ true) × (b ≡ true)
-both true b h = (refl, h)
-both false b h = absurd (let z : _≡_ {A = ℕ} 0 1 = cc in omega arith)
-
 pub room : (tally answer : List ℕ) → hasRoom tally answer ≡ true → (tallyPlaces ≤ length tally) × (answerPlaces ≤ length answer)
 room tally answer h =
-    let parts = both (leb tallyPlaces (length tally)) (leb answerPlaces (length answer)) h in
+    let parts = and-eq-true-iff (leb tallyPlaces (length tally)) (leb answerPlaces (length answer)) .0 h in
     (leb-true tallyPlaces (length tally) (parts .0), leb-true answerPlaces (length answer) (parts .1))
 
 -- ---- the calls

@@ -1,6 +1,6 @@
 -- Demand 2's last sentence: fields read and written again give the same bytes; every writable field reads back as itself.
 -- Assumes nothing.
-use mathlib.Core.Bool.{Bool, true, false, _&&_, cond, false≢true}
+use mathlib.Core.Bool.{Bool, true, false, cond, and-eq-true-iff}
 use mathlib.Core.List.{List, [], _∷_, _++_}
 use mathlib.Core.Path.{_≡_, refl, sym, _∙_, ap, subst}
 use Prim.Native.Nat.{ℕ, zero, suc, _+_, _*_, _/_, _%_, _≤_, _<_}
@@ -39,11 +39,7 @@ pub record Readable (f : Field) : Type 0 where
 -- ---- a tag is small
 tag-small : (tag : ℕ) → isTag tag ≡ true → tag < 14
 unfolding isTag
-tag-small tag e = ltb-true tag 14 (right-of (ltb 0 tag) (ltb tag 14) e)
-  where
-    right-of : (a b : Bool) → a && b ≡ true → b ≡ true
-    right-of true b e = e
-    right-of false b e = absurd (false≢true e)
+tag-small tag e = ltb-true tag 14 (and-eq-true-iff (ltb 0 tag) (ltb tag 14) .0 e .1)
 
 -- ---- written, then read
 read-whole : (x y z : ℕ) (v : List ℕ) (f : Field) → isTag x ≡ true → y + 256 * z ≡ lengthOf x → lengthOf x ≤ length v

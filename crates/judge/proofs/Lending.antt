@@ -4,10 +4,9 @@ use Prim.Native.Nat.{ℕ}
 use borrow.Author.Tests.{le-leb, leb-true}
 use lib.Dec.{leb}
 use lib.ListN.{drop, length, replicate}
-use mathlib.Core.Bool.{Bool, true, false, _&&_}
+use mathlib.Core.Bool.{Bool, true, false, _&&_, and-eq-true-iff}
 use mathlib.Core.List.{List, _++_}
-use mathlib.Core.Path.{_≡_, ap, refl}
-use native.Mathlib.Omega.{arith}
+use mathlib.Core.Path.{_≡_, ap}
 use Rattle.fields.specs.declared.Refusal.the-variants.{BufferTooShort, LogTooLong}
 use Rattle.fields.specs.Limits.{cells, logBytes, logFields}
 use Rattle.heap.specs.Boards.{withFront}
@@ -27,11 +26,12 @@ pub all-but-last : (a b c d e : Bool) → a ≡ true → b ≡ true → c ≡ tr
 all-but-last a b c d e p q r s = rw (p, q, r, s)
 
 all-five : (a b c d e : Bool) → (a && b && c && d && e) ≡ true → (a ≡ true) × ((b ≡ true) × ((c ≡ true) × ((d ≡ true) × (e ≡ true))))
-all-five true true true true e h = (refl, (refl, (refl, (refl, h))))
-all-five true true true false e h = absurd (let z : _≡_ {A = ℕ} 0 1 = cc in omega arith)
-all-five true true false d e h = absurd (let z : _≡_ {A = ℕ} 0 1 = cc in omega arith)
-all-five true false c d e h = absurd (let z : _≡_ {A = ℕ} 0 1 = cc in omega arith)
-all-five false b c d e h = absurd (let z : _≡_ {A = ℕ} 0 1 = cc in omega arith)
+all-five a b c d e h =
+    let p = and-eq-true-iff (a && b && c && d) e .0 h in
+    let q = and-eq-true-iff (a && b && c) d .0 (p .0) in
+    let r = and-eq-true-iff (a && b) c .0 (q .0) in
+    let s = and-eq-true-iff a b .0 (r .0) in
+    (s .0, (s .1, (r .1, (q .1, p .1))))
 
 pub long-enough : (p s v n t : List ℕ) (tally : Tally) → longEnough (lent p s v n t tally) ≡ true → LongEnough p s v n t
 unfolding longEnough

@@ -1,33 +1,26 @@
 -- What a command does to the tally: one field more, and at most one malloc more. And how many cells can be live.
 -- Assumes nothing.
 use Prim.Native.Nat.{ℕ, _+_, _≤_}
-use mathlib.Core.Bool.{Bool, true, false, cond}
+use mathlib.Core.Bool.{Bool, cond}
 use lib.Dec.{eqb}
 use lib.ListN.{length}
 use mathlib.Core.List.{List, [], _∷_}
 use mathlib.Core.Path.{_≡_, refl}
 use native.Mathlib.Omega.{arith}
+use Rattle.fields.proofs.Passing.{either}
 use Rattle.rules.specs.declared.Change.{Change}
 use Rattle.rules.specs.declared.Change.the-variants.{Stay, Allocate, Release, Move, Put}
 use Rattle.rules.specs.declared.Act.{Act}
 use Rattle.rules.specs.State.{State, live, pointer, store, write}
-use Rattle.rules.specs.Words.{cellOf, isUnset}
+use Rattle.rules.specs.Words.{isUnset}
 use Rattle.rules.specs.Effect.{apply, countField, effect, free, give}
 use Rattle.rules.specs.Run.{liveCount}
-
-fields-cond : (b : Bool) (s t : State) (k : ℕ) → s .fields ≡ k → t .fields ≡ k → cond b s t .fields ≡ k
-fields-cond true s t k x y = x
-fields-cond false s t k x y = y
-
-mallocs-cond : (b : Bool) (s t : State) (k : ℕ) → s .mallocs ≤ k → t .mallocs ≤ k → cond b s t .mallocs ≤ k
-mallocs-cond true s t k x y = x
-mallocs-cond false s t k x y = y
 
 apply-fields : (c : Change) (s : State) → apply c s .fields ≡ s .fields
 unfolding give write store free
 apply-fields Stay s = refl
 apply-fields (Allocate p c d) s = refl
-apply-fields (Release p) s = fields-cond (isUnset (pointer s p)) s (free (cellOf (pointer s p)) s) (s .fields) refl refl
+apply-fields (Release p) s = either (λ (t : State). t .fields ≡ s .fields) (isUnset (pointer s p)) refl refl
 apply-fields (Move x y) s = refl
 apply-fields (Put x v) s = refl
 
@@ -38,7 +31,7 @@ apply-mallocs : (c : Change) (s : State) → apply c s .mallocs ≤ s .mallocs +
 unfolding give write store free
 apply-mallocs Stay s = omega arith
 apply-mallocs (Allocate p c d) s = omega arith
-apply-mallocs (Release p) s = mallocs-cond (isUnset (pointer s p)) s (free (cellOf (pointer s p)) s) (s .mallocs + 1) (omega arith) (omega arith)
+apply-mallocs (Release p) s = either (λ (t : State). t .mallocs ≤ s .mallocs + 1) (isUnset (pointer s p)) (omega arith) (omega arith)
 apply-mallocs (Move x y) s = omega arith
 apply-mallocs (Put x v) s = omega arith
 
@@ -51,8 +44,7 @@ unfolding countField
 counted a s = record { fields = rw (apply-fields (a .change) s); mallocs = apply-mallocs (a .change) s }
 
 one-at-most : (b : Bool) → cond b 1 0 ≤ 1
-one-at-most true = omega arith
-one-at-most false = omega arith
+one-at-most b = either (λ n. n ≤ 1) b (omega arith) (omega arith)
 
 pub live-at-most : (status : List ℕ) → liveCount status ≤ length status
 live-at-most [] = omega arith

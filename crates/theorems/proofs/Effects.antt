@@ -2,7 +2,7 @@
 -- give out a cell, whatever cell the replay takes, if it was never used. Assumes nothing.
 use Prim.Native.Nat.{_%_, _*_, _+_, _/_, _<_, ℕ}
 use mathlib.Core.Path.{_∙_, _≡_, ap, refl, subst, sym}
-use mathlib.Core.Bool.{cond, false, true}
+use mathlib.Core.Bool.{and-false, cond, false, true}
 use mathlib.Core.List.{List}
 use native.Mathlib.Omega.{arith}
 use borrow.Author.Tests.{eq-eqb, eqb-false, eqb-true, ne-eqb}
@@ -24,7 +24,7 @@ use Rattle.rules.specs.Effect.{countField, free, give}
 use Rattle.rules.specs.Replay.{startingData}
 use Rattle.rules.specs.Matching.{Live, Owned}
 use Rattle.rules.proofs.Passed.{Clear, reached}
-use Rattle.theorems.proofs.Basics.{and-false, clash, eqb-self, getD-set, split}
+use Rattle.theorems.proofs.Basics.{clash, eqb-self, getD-set, split}
 use Rattle.theorems.proofs.Words.{freedAt, freedAt-valid, valid-cell}
 use Rattle.theorems.proofs.States.{Sized, Within, clearedAt, count-set, eqPlace, status-set, word-free, word-give, word-write}
 use Rattle.theorems.proofs.Kept.{live-below, live-cell}

@@ -8,7 +8,7 @@ use native.Mathlib.Omega.{arith}
 use borrow.Author.Tests.{ltb-false, ltb-true}
 use lib.Dec.{eqb, ltb}
 use lib.ListN.{List·getD-eq-default, length, length-map, length-replicate, length-set}
-use Rattle.fields.proofs.Passing.{every-cut}
+use Rattle.fields.proofs.Passing.{either, every-cut}
 use Rattle.rules.specs.declared.PExp.{PExp}
 use Rattle.rules.specs.declared.PExp.the-variants.{PointerVariable, SelectorOf}
 use Rattle.rules.specs.declared.DExp.{DExp}
@@ -32,7 +32,7 @@ use Rattle.rules.specs.Check.{check, points, valid}
 use Rattle.rules.specs.Effect.{apply, countField, effect, free, give}
 use Rattle.rules.specs.Matching.{Owned}
 use Rattle.rules.proofs.Passed.{Clear, Passed, Set, looked, passed, reached}
-use Rattle.theorems.proofs.Basics.{either, getD-same, split}
+use Rattle.theorems.proofs.Basics.{getD-same, split}
 use Rattle.theorems.proofs.Words.{cell-small}
 use Rattle.theorems.proofs.States.{Sized, Within, length-changeOwn, status-set, word-free, word-give, word-write}
 use Rattle.theorems.proofs.Sound.{Good, Sound, good-unset, sound-free, sound-give, sound-write}

@@ -2,7 +2,7 @@
 -- Assumes nothing.
 use Prim.Native.Nat.{_<_, suc, zero, ℕ}
 use mathlib.Core.Path.{_≡_, refl}
-use mathlib.Core.Bool.{true}
+use mathlib.Core.Bool.{and-eq-true-iff, true}
 use mathlib.Core.List.{List, [], _∷_}
 use native.Mathlib.Nat.{le-of-suc-le-suc, not-suc-le-zero}
 use native.Mathlib.Omega.{arith}
@@ -17,7 +17,7 @@ use Rattle.rules.specs.declared.Act.{Act}
 use Rattle.rules.specs.Commands.{actOf, commandOf, commands, noCommand}
 use Rattle.theorems.specs.Paper.{Assert, Com, Compute, Copy, Free, Load, Malloc, ReadData, Selector, Store, WriteData, index, negated, next₀, next₁, sameData, samePointers}
 use Rattle.theorems.specs.Beside.{Says, says-apart, says-constant, says-copy, says-equal, says-free, says-load, says-malloc, says-read, says-same, says-store, says-sum, says-unequal, says-write, wrappingSum}
-use Rattle.theorems.proofs.Basics.{and-both, clash}
+use Rattle.theorems.proofs.Basics.{clash}
 use Rattle.theorems.proofs.Tables.{Facts, RowByRow, _▹_, facts}
 
 abbrev Sayable : Row → (Field → Act) → Type 0
@@ -70,4 +70,4 @@ readable-says f R = by (f .tag) (R .tag) f (facts (rowOf (f .tag)) f (R .right))
   where
     by : (tag : ℕ) → isTag tag ≡ true → Sayable (rowOf tag) (commandOf tag)
     by zero known = unfold isTag in (clash known refl)
-    by (suc i) known = unfold isTag rowOf commandOf in (at-known Sayable (drop 1 rows) (drop 1 commands) i (omega (arith, ltb-true (suc i) 14 (and-both (ltb 0 (suc i)) (ltb (suc i) 14) known .1))) sayable)
+    by (suc i) known = unfold isTag rowOf commandOf in (at-known Sayable (drop 1 rows) (drop 1 commands) i (omega (arith, ltb-true (suc i) 14 (and-eq-true-iff (ltb 0 (suc i)) (ltb (suc i) 14) .0 known .1))) sayable)

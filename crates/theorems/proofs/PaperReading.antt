@@ -2,11 +2,12 @@
 -- Assumes nothing.
 use Prim.Native.Nat.{_*_, _+_, _/_, _<_, ℕ}
 use mathlib.Core.Path.{_∙_, _≡_, ap, refl, sym}
-use mathlib.Core.Bool.{Bool, _&&_, _||_, cond, false, not, true}
+use mathlib.Core.Bool.{Bool, _&&_, _||_, and-eq-true-iff, and-false, and-true, cond, false, not, or-false, or-true, true}
 use mathlib.Core.Logic.{inl, inr}
 use native.Mathlib.Omega.{arith}
-use borrow.Author.Tests.{eq-eqb, eqb-false, eqb-true, ne-eqb}
+use borrow.Author.Tests.{eq-eqb, eqb-false, eqb-true, ne-eqb, not-false}
 use lib.Dec.{eqb}
+use Rattle.fields.proofs.Passing.{either}
 use Rattle.rules.specs.declared.Place.{Place}
 use Rattle.rules.specs.declared.Place.the-variants.{PointerWord, SelectorWord}
 use Rattle.rules.specs.declared.DataPlace.the-variants.{CellNumber, VariableNumber}
@@ -17,7 +18,7 @@ use Rattle.rules.specs.Replay.{startingData}
 use Rattle.rules.specs.Matching.{Live, Owned}
 use Rattle.theorems.specs.Paper.{Adr, DExp, Heap, InUse, PExp, Partial, Selector, cell, dataOf, dataVar, defined, index, isNextOf, nextOf, next₀, next₁, pointerVar, pointsTo, sameDExp, samePExp, seg, undefined}
 use Rattle.theorems.specs.Beside.{adrOf, dvalOf, freedOf, isAllocated, isThere, placeOf, pvalOf, validOf}
-use Rattle.theorems.proofs.Basics.{and-both, and-false, and-true, clash, either, eqb-self, eqb-turn, getD-set, or-false, or-true, split}
+use Rattle.theorems.proofs.Basics.{clash, eqb-self, eqb-turn, getD-set, split}
 use Rattle.theorems.proofs.Words.{afterFree-unset, cell-freedAt, cell-small, cell-unset, freedAt, unset-freedAt, unset-unset, valid-below, valid-invalidated}
 use Rattle.theorems.proofs.States.{Sized, Within, clearedAt, eqPlace, status-set, word-free, word-give, word-write}
 use Rattle.theorems.proofs.Sound.{owned}
@@ -108,7 +109,7 @@ same-there : (s : State) (e q : PExp) → samePExp e q ≡ true → isThere s e 
 same-there s (pointerVar p) (pointerVar q) t h = refl
 same-there s (pointerVar p) (nextOf b j) t h = clash t refl
 same-there s (nextOf a i) (pointerVar q) t h = refl
-same-there s (nextOf a i) (nextOf b j) t h = rw (eqb-true a b (and-both (eqb a b) (eqb (index i) (index j)) t .0)) at h
+same-there s (nextOf a i) (nextOf b j) t h = rw (eqb-true a b (and-eq-true-iff (eqb a b) (eqb (index i) (index j)) .0 t .0)) at h
 
 module _ (s : State) (x : PExp) (w : ℕ) (z : Sized s) (within : Within (placeOf x)) (there : isThere s x ≡ true) where
   word-at : (e : PExp) → word (write (placeOf x) w s) (placeOf e) ≡ cond (samePExp x e) w (word s (placeOf e))
@@ -164,10 +165,6 @@ module _ (s : State) (c : ℕ) (T : Traced (word s) (statusOf s)) (hc : c < 1024
       (λ u. rw u (eqb-turn (cellOf (word s (placeOf e))) c))))
       (λ t. rw (t, absent e t, cell-unset) (sym (ne-eqb c unset (λ q. omega arith))))
     where
-      not-false : (b : Bool) → not b ≡ false → b ≡ true
-      not-false true e = refl
-      not-false false e = clash refl e
-
       absent : (e : PExp) → isThere s e ≡ false → word s (placeOf e) ≡ unset
       absent (pointerVar p) t = clash refl t
       absent (nextOf a i) t = T .unwritten (2 * a + index i) (rw (half a i) (eqb-true (statusOf s a) neverUsed (not-false (eqb (statusOf s a) neverUsed) t)))
@@ -280,7 +277,7 @@ module _ (s : State) (p c d : ℕ) (z : Sized s) (hp : p < 80) (hc : c < 1024) w
       let w : ℕ = word s (SelectorWord (2 * a + index i)) in
       rw (word-give s p c d (SelectorWord (2 * a + index i)) z hp hc, half a i, or-false (isValid w)) (split (eqb (statusOf s c) neverUsed && eqb c a)
       (λ t.
-      let both = and-both (eqb (statusOf s c) neverUsed) (eqb c a) t in
+      let both = and-eq-true-iff (eqb (statusOf s c) neverUsed) (eqb c a) .0 t in
       let new : statusOf s a ≡ neverUsed = rw (eqb-true c a (both .1)) at (eqb-true (statusOf s c) neverUsed (both .0)) in
       rw (t, T .unwritten (2 * a + index i) (rw (half a i) new)) refl)
       (λ t. rw t refl))

@@ -5,7 +5,7 @@ use mathlib.Core.Path.{_∙_, _≡_, refl, sym}
 use mathlib.Core.Bool.{false, true}
 use mathlib.Core.List.{List, [], _++_, _∷_}
 use native.Mathlib.Omega.{arith}
-use borrow.Author.Tests.{eqb-false}
+use borrow.Author.Tests.{eqb-false, not-true}
 use lib.Dec.{eqb}
 use Rattle.fields.specs.declared.Field.{Field}
 use Rattle.fields.specs.Every.{AreBytes, Every}
@@ -29,7 +29,7 @@ use Rattle.rules.specs.Log.{parse, runBytes}
 use Rattle.rules.proofs.Passed.{Clear, Passed, looked, passed, reached}
 use Rattle.theorems.specs.Paper.{Com, Computation, DExp, MemoryManaged, PExp, RaceFree, dataOf, dataVar, dvalAtFirst, index, initial, negated, nextOf, pointerVar, pvalAtFirst, sameData, samePointers, then}
 use Rattle.theorems.specs.Beside.{Computed, Says, Shows, dvalOf, passing, placeOf, pvalOf, says-apart, says-constant, says-copy, says-equal, says-free, says-load, says-malloc, says-read, says-same, says-store, says-sum, says-unequal, says-write, validOf, wrappingSum}
-use Rattle.theorems.proofs.Basics.{clash, getD-same, not-true, split}
+use Rattle.theorems.proofs.Basics.{clash, getD-same, split}
 use Rattle.theorems.proofs.Words.{cell-small, unset-unset, valid-below}
 use Rattle.theorems.proofs.States.{status-set, word-free, word-give, word-write}
 use Rattle.theorems.proofs.Kept.{Inv, Named, found, freed-live, inv-fresh, keep, live-below, status-fresh, word-fresh}

@@ -2,7 +2,7 @@
 -- computation after it. Assumes nothing.
 use Prim.Native.Nat.{_*_, _+_, _<_, ℕ}
 use mathlib.Core.Path.{_∙_, _≡_, ap, refl, sym}
-use mathlib.Core.Bool.{Bool, _&&_, _||_, cond, false, true}
+use mathlib.Core.Bool.{Bool, _&&_, _||_, and-false, and-true, cond, false, or-false, or-true, true}
 use mathlib.Core.List.{List, [], _∷_}
 use native.Mathlib.Omega.{arith}
 use borrow.Author.Tests.{eqb-false, eqb-true}
@@ -24,7 +24,7 @@ use Rattle.rules.specs.Matching.{Live}
 use Rattle.rules.proofs.Passed.{Set}
 use Rattle.theorems.specs.Paper.{Adr, Asgn-compute, Asgn-copy, Asgn-load, Asgn-read, Asgn-store, Asgn-write, Asrt, Assert, Com, Computation, Compute, Cond, Copy, DExp, Free, Free-rule, Heap, Load, Malloc, Malloc1, Malloc2, PExp, ReadData, Rule, Selector, Store, Update, Values, WriteData, cell, dataOf, dataTo, dataVar, defined, freedAfter, freedIn, heapOf, index, isSeg, nextOf, next₀, next₁, passes, pointerTo, pointerVar, received, sameAdr, sameDExp, sameData, samePExp, samePointers, seg, then, validAfter, validIn, validNext, wantedIs}
 use Rattle.theorems.specs.Beside.{Shows, adrOf, dvalOf, isAllocated, isThere, placeOf, pvalOf, validOf}
-use Rattle.theorems.proofs.Basics.{and-false, and-true, eqb-self, eqb-turn, or-false, or-true, split}
+use Rattle.theorems.proofs.Basics.{eqb-self, eqb-turn, split}
 use Rattle.theorems.proofs.States.{Within}
 use Rattle.theorems.proofs.Kept.{Inv, found, live-below, live-cell}
 use Rattle.theorems.proofs.PaperReading.{Traced, adr-set, allocated-live, dval-cell, dval-free, dval-new, dval-used, dval-variable, freed-free, freed-give, mark-free, mark-give, mark-write, not-in-use, pval-free, pval-new, pval-used, pval-write}

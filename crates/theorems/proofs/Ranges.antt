@@ -6,6 +6,7 @@ use mathlib.Core.List.{List, map}
 use native.Mathlib.Omega.{arith}
 use borrow.Author.Tests.{ltb-true}
 use lib.Dec.{eqb, ltb}
+use Rattle.fields.proofs.Passing.{either}
 use Rattle.fields.specs.declared.RecordedCell.{RecordedCell}
 use Rattle.rules.specs.declared.DExp.the-variants.{DataOf, DataVariable}
 use Rattle.rules.specs.declared.Value.{Value}
@@ -22,7 +23,7 @@ use Rattle.rules.specs.State.{State, fresh, neverUsed, numberAt, pointer, statu
 use Rattle.rules.specs.Acts.{dataPlace, place, value}
 use Rattle.rules.specs.Effect.{apply, changeOwn, changeWord, countField, effect, free, give}
 use Rattle.rules.specs.Replay.{startingData}
-use Rattle.theorems.proofs.Basics.{either, getD-same, in-map, in-set, split}
+use Rattle.theorems.proofs.Basics.{getD-same, in-map, in-set, split}
 use Rattle.theorems.proofs.Kept.{Named, word-fresh}
 
 -- ---- a property of words that every command keeps

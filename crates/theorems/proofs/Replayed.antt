@@ -8,6 +8,7 @@ use mathlib.Core.List.{List, [], _∷_}
 use native.Mathlib.Omega.{arith}
 use borrow.Author.Tests.{eqb-true, ltb-true, ne-eqb}
 use lib.Dec.{eqb}
+use Rattle.fields.proofs.Passing.{either}
 use Rattle.fields.specs.declared.Field.{Field}
 use Rattle.fields.specs.Every.{Every}
 use Rattle.fields.proofs.RoundTrip.{there}
@@ -30,7 +31,7 @@ use Rattle.rules.specs.Run.{Outcome, next, run}
 use Rattle.rules.specs.Replay.{Matching, copyAct, copyChange, copyField, nextCell, rematch, replay, start}
 use Rattle.rules.specs.Matching.{Alike, Along, Live, Match, Owned, twin}
 use Rattle.rules.proofs.Passed.{Clear, looked, passed}
-use Rattle.theorems.proofs.Basics.{either, split}
+use Rattle.theorems.proofs.Basics.{split}
 use Rattle.theorems.proofs.States.{status-set}
 use Rattle.theorems.proofs.Kept.{Inv, Named, NamedAct, freed-live, inv-fresh, live-below, status-fresh, word-fresh}
 use Rattle.theorems.proofs.Tied.{Pair, Tied, beside, flat, partner, partner-set, partner-unset, word-live}

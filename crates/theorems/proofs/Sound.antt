@@ -2,16 +2,17 @@
 -- selectors of a freed cell are not valid. Nothing is asked of a never-used cell: a malloc clears its selectors. Assumes nothing.
 use Prim.Native.Nat.{_/_, _≤_, ℕ}
 use mathlib.Core.Path.{_≡_, refl, subst}
-use mathlib.Core.Bool.{_&&_, cond, false, true}
+use mathlib.Core.Bool.{_&&_, and-false, cond, false, true}
 use native.Mathlib.Omega.{arith}
 use borrow.Author.Tests.{eqb-true}
 use lib.Dec.{eqb}
+use Rattle.fields.proofs.Passing.{either}
 use Rattle.rules.specs.declared.Place.{Place}
 use Rattle.rules.specs.declared.Place.the-variants.{PointerWord, SelectorWord}
 use Rattle.rules.specs.Words.{cellOf, isUnset, isValid, unset}
 use Rattle.rules.specs.State.{freed, live, neverUsed}
 use Rattle.rules.specs.Matching.{Owned}
-use Rattle.theorems.proofs.Basics.{and-false, clash, either, eqb-self, split}
+use Rattle.theorems.proofs.Basics.{clash, eqb-self, split}
 use Rattle.theorems.proofs.Words.{afterFree-invalid, cell-freedAt, freedAt, freedAt-valid, unset-freedAt, unset-unset, valid-invalidated}
 use Rattle.theorems.proofs.States.{clearedAt, eqPlace}
 

@@ -3,7 +3,7 @@
 use Prim.Native.Nat.{_<_, ℕ}
 use mathlib.Core.Path.{_∙_, _≡_, refl}
 use mathlib.Core.Bool.{true}
-use borrow.Author.Tests.{eqb-false}
+use borrow.Author.Tests.{eqb-false, not-true}
 use lib.Dec.{eqb}
 use Rattle.fields.proofs.Passing.{every-cut}
 use Rattle.rules.specs.declared.ReplayCell.{ReplayCell}
@@ -18,7 +18,7 @@ use Rattle.rules.specs.Check.{check, each, points, roomFor, vacant, valid}
 use Rattle.rules.specs.Effect.{apply, effect}
 use Rattle.rules.specs.Replay.{Matching, copyAct, copyChange, rematch}
 use Rattle.rules.proofs.Passed.{Clear, Passed, Set, clear-each, each-clear, looked, passBy, passed}
-use Rattle.theorems.proofs.Basics.{not-true, split}
+use Rattle.theorems.proofs.Basics.{split}
 use Rattle.theorems.proofs.Kept.{Named, NamedAct, found, keep, live-cell}
 use Rattle.theorems.proofs.Tied.{Pair, Tied, beside, clear-points, clear-valid, flat, holds-sim, place-beside, pointer-cell, pointer-unset}
 use Rattle.theorems.proofs.Effects.{countField-sim, free-sim, give-sim, store-sim, value-sim, write-sim}

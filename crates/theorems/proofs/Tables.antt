@@ -2,7 +2,7 @@
 -- A further tag is a line in each table, and a line here. Assumes nothing.
 use Prim.Native.Nat.{_*_, _+_, _<_, suc, zero, ℕ}
 use mathlib.Core.Path.{_∙_, _≡_, ap, refl, subst, sym}
-use mathlib.Core.Bool.{Bool, _&&_, false, true}
+use mathlib.Core.Bool.{Bool, _&&_, and-eq-true-iff, false, true}
 use mathlib.Core.List.{List, [], _∷_}
 use native.Mathlib.Omega.{arith}
 use borrow.Author.Tests.{lt-ltb, ltb-true}
@@ -28,7 +28,7 @@ use Rattle.rules.specs.Acts.{gives}
 use Rattle.rules.specs.Commands.{actOf, commandOf, commands, does, noCommand}
 use Rattle.rules.specs.Replay.{copyAct, copyChange, copyField, recast}
 use Rattle.rules.specs.Cases.{right}
-use Rattle.theorems.proofs.Basics.{and-both, or-second, split}
+use Rattle.theorems.proofs.Basics.{or-second, split}
 use Rattle.theorems.proofs.Kept.{Named, NamedAct}
 use Rattle.theorems.proofs.Ranges.{Bounded, Small, startingData-below}
 
@@ -65,7 +65,7 @@ unfolding mayName
 may-name-below t n h e = split (ltb n 16)
     (λ p. let q : n < 16 = ltb-true n 16 p in omega arith)
     (λ p.
-    let a = and-both (leb (16 + 8 * t) n) (ltb n (16 + 8 * t + 8)) (or-second (ltb n 16) (leb (16 + 8 * t) n && ltb n (16 + 8 * t + 8)) e p) in
+    let a = and-eq-true-iff (leb (16 + 8 * t) n) (ltb n (16 + 8 * t + 8)) .0 (or-second (ltb n 16) (leb (16 + 8 * t) n && ltb n (16 + 8 * t + 8)) e p) in
     let q : n < 16 + 8 * t + 8 = ltb-true n (16 + 8 * t + 8) (a .1) in
     omega arith)
 
@@ -82,10 +82,10 @@ cell-fact false c e = tt
 pub facts : (r : Row) (f : Field) → Every Passes (valueChecks r f) → Facts r f
 facts r f right =
     let thread : f .thread < 8 = ltb-true (f .thread) 8 (right .0) in
-    let n = and-both (isNamed (f .thread) (r .0) (f .first)) (isNamed (f .thread) (r .1) (f .second) && isNamed (f .thread) (r .2) (f .third)) (right .1 .0) in
-    let n′ = and-both (isNamed (f .thread) (r .1) (f .second)) (isNamed (f .thread) (r .2) (f .third)) (n .1) in
-    let s = and-both (isSelected (r .0) (f .first)) (isSelected (r .1) (f .second) && isSelected (r .2) (f .third)) (right .1 .1 .0) in
-    let s′ = and-both (isSelected (r .1) (f .second)) (isSelected (r .2) (f .third)) (s .1) in (
+    let n = and-eq-true-iff (isNamed (f .thread) (r .0) (f .first)) (isNamed (f .thread) (r .1) (f .second) && isNamed (f .thread) (r .2) (f .third)) .0 (right .1 .0) in
+    let n′ = and-eq-true-iff (isNamed (f .thread) (r .1) (f .second)) (isNamed (f .thread) (r .2) (f .third)) .0 (n .1) in
+    let s = and-eq-true-iff (isSelected (r .0) (f .first)) (isSelected (r .1) (f .second) && isSelected (r .2) (f .third)) .0 (right .1 .1 .0) in
+    let s′ = and-eq-true-iff (isSelected (r .1) (f .second)) (isSelected (r .2) (f .third)) .0 (s .1) in (
       slot-fact (f .thread) (r .0) (f .first) thread (n .0) (s .0),
       slot-fact (f .thread) (r .1) (f .second) thread (n′ .0) (s′ .0),
       slot-fact (f .thread) (r .2) (f .third) thread (n′ .1) (s′ .1),

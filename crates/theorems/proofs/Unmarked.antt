@@ -12,7 +12,7 @@ use Rattle.fields.specs.declared.RecordedCell.{RecordedCell}
 use Rattle.fields.specs.declared.Field.{Field}
 use Rattle.fields.specs.declared.Refusal.the-variants.{UnsetPointer}
 use Rattle.fields.specs.Every.{Every}
-use Rattle.fields.proofs.Passing.{every-cut}
+use Rattle.fields.proofs.Passing.{either, every-cut}
 use Rattle.rules.specs.declared.PExp.{PExp}
 use Rattle.rules.specs.declared.PExp.the-variants.{PointerVariable, SelectorOf}
 use Rattle.rules.specs.declared.DExp.{DExp}
@@ -40,7 +40,7 @@ use Rattle.rules.specs.Run.{End, Outcome, endVerdict, next, runTo, unread, whol
 use Rattle.rules.specs.Matching.{Live, Owned}
 use Rattle.rules.specs.Plain.{Distinct, applyPlain, checkPlain, freePlain, givenBy, runPlainTo, unfreed}
 use Rattle.rules.proofs.Passed.{Clear, each-same, looked, passed}
-use Rattle.theorems.proofs.Basics.{either, eqb-self, every-map, map-set, set-getD, split}
+use Rattle.theorems.proofs.Basics.{eqb-self, every-map, map-set, set-getD, split}
 use Rattle.theorems.proofs.Words.{cell-afterFree, cell-cell, cell-invalidated, cell-small, cell-unset, freedAt, unset-cell, valid-below, valid-invalidated}
 use Rattle.theorems.proofs.States.{Sized, Within, clearedAt, eqPlace, status-set, word-free, word-give, word-write}
 use Rattle.theorems.proofs.Kept.{Inv, Named, NamedAct, found, freed-live, inv-fresh, keep, live-below, status-fresh, word-fresh}
