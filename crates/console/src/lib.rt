@@ -4,7 +4,6 @@ ghost use Prim.Native.Nat.{_≤_};
 ghost use lib.ListN.{length};
 use fields::Log;
 use libc::STDIN_FILENO;
-use rules::Printed;
 use rules::Verdict;
 
 // More chunks than any input has.

@@ -36,7 +36,7 @@ length-pack [] ns = refl
 length-pack (w ∷ ws) [] = rw (length-append (toBytes w 0) (pack ws []), length-toBytes w 0, length-pack ws []) refl
 length-pack (w ∷ ws) (n ∷ ns) = rw (length-append (toBytes w n) (pack ws ns), length-toBytes w n, length-pack ws ns) refl
 
-pub sets-append : (l xs ys : List ℕ) (i : ℕ) → sets l i (xs ++ ys) ≡ sets (sets l i xs) (i + length xs) ys
+sets-append : (l xs ys : List ℕ) (i : ℕ) → sets l i (xs ++ ys) ≡ sets (sets l i xs) (i + length xs) ys
 sets-append l [] ys i = rw add-zero
 sets-append l (x ∷ xs) ys i = rw (add-suc, ← suc-add) (sets-append _ xs ys (suc i))
 

@@ -1,6 +1,6 @@
 -- A framed field: what its frame says of the part it stands in, and what reading it comes to.
 -- Assumes nothing.
-use mathlib.Core.Path.{_≡_, refl, sym, _∙_, ap}
+use mathlib.Core.Path.{_≡_, sym, _∙_, ap}
 use mathlib.Core.List.{List, [], _∷_}
 use Prim.Native.Nat.{ℕ, _+_, _≤_, _<_}
 use native.Mathlib.Omega.{arith}
@@ -16,7 +16,6 @@ use Rattle.fields.specs.declared.checks.Checked.{Checked}
 use Rattle.fields.specs.declared.checks.Checked.the-variants.{Passed, Failed}
 use Rattle.fields.specs.declared.frame.Frame.{Frame}
 use Rattle.fields.specs.declared.frame.Frame.the-variants.{Framed, Unframed}
-use Rattle.fields.specs.Every.{Every}
 use Rattle.fields.specs.Order.{inOrder}
 use Rattle.fields.specs.Bytes.{fromBytes, unpack}
 use Rattle.fields.specs.Rows.{isPresent, lengthOf, rowOf, widthIf, widthsOf}
@@ -24,7 +23,7 @@ use Rattle.fields.specs.Numbers.{fieldWith}
 use Rattle.fields.specs.Checks.{valueChecks}
 use Rattle.fields.specs.Read.{fieldOf, framingChecks, readField, tagIn, valueIn}
 use Rattle.fields.proofs.Digits.{byte-at}
-use Rattle.fields.proofs.Passing.{Passes, all-passed, in-order-append, in-order-map}
+use Rattle.fields.proofs.Passing.{all-passed, in-order-append, in-order-map}
 
 -- ---- what a frame says
 abbrev pub framing : List ℕ → Frame
@@ -55,7 +54,7 @@ abbrev valued : List ℕ → Frame → Read
 valued s (Framed tag) = let f = fieldOf tag (valueIn s) in checked f (inOrder Failed Passed (valueChecks (rowOf tag) f))
 valued s (Unframed r) = Refused r
 
-pub read-frame : (s : List ℕ) → readField s ≡ valued s (framing s)
+read-frame : (s : List ℕ) → readField s ≡ valued s (framing s)
 unfolding readField
 read-frame s =
     let f = fieldOf (tagIn s) (valueIn s) in

@@ -16,11 +16,11 @@ cap zero = 1
 cap (suc width) = 256 * cap width
 
 -- ---- one number
-pub from-to : (width n : ℕ) → n < cap width → fromBytes (toBytes width n) ≡ n
+from-to : (width n : ℕ) → n < cap width → fromBytes (toBytes width n) ≡ n
 from-to zero n h = omega arith
 from-to (suc width) n h = rw (from-to width (n / 256) (omega arith)) (omega arith)
 
-pub to-from : (l : List ℕ) → AreBytes l → toBytes (length l) (fromBytes l) ≡ l
+to-from : (l : List ℕ) → AreBytes l → toBytes (length l) (fromBytes l) ≡ l
 to-from [] b = refl
 to-from (x ∷ l) b =
     let h : x < 256 = b .0 in
@@ -36,7 +36,7 @@ from-below (x ∷ l) b =
     omega arith
 
 -- ---- bytes of bytes
-pub bytes-take : (n : ℕ) (l : List ℕ) → AreBytes l → AreBytes (take n l)
+bytes-take : (n : ℕ) (l : List ℕ) → AreBytes l → AreBytes (take n l)
 bytes-take zero l b = tt
 bytes-take (suc n) [] b = tt
 bytes-take (suc n) (x ∷ l) b = (b .0, bytes-take n l (b .1))

@@ -2,24 +2,21 @@
 -- Assumes nothing.
 use mathlib.Core.Bool.{Bool, true, false, cond, and-eq-true-iff}
 use mathlib.Core.List.{List, [], _∷_, _++_}
-use mathlib.Core.Path.{_≡_, refl, sym, _∙_, ap, subst}
+use mathlib.Core.Path.{_≡_, refl, sym, ap, subst}
 use Prim.Native.Nat.{ℕ, zero, suc, _+_, _*_, _/_, _%_, _≤_, _<_}
 use native.Mathlib.Omega.{arith}
-use borrow.Author.Tests.{eq-eqb, eqb-true, le-leb, leb-true, lt-ltb, ltb-true, ne-eqb}
+use borrow.Author.Tests.{eq-eqb, eqb-true, le-leb, leb-true, ltb-true, ne-eqb}
 use lib.Dec.{eqb, leb, ltb}
-use lib.ListN.{length, length-append, length-drop, getD, take, drop, take-append-drop}
+use lib.ListN.{length, length-append, take, drop, take-append-drop}
 use lib.Seq.{drop-drop, take-append-seam}
 use Rattle.fields.specs.declared.rows.Slot.{Slot}
 use Rattle.fields.specs.declared.rows.Slot.the-variants.{Absent, Pointer, Data, Selector}
 use Rattle.fields.specs.declared.Field.{Field}
 use Rattle.fields.specs.declared.Refusal.{Refusal}
-use Rattle.fields.specs.declared.Read.{Read}
 use Rattle.fields.specs.declared.Read.the-variants.{Got, Refused}
-use Rattle.fields.specs.declared.Written.{Written}
-use Rattle.fields.specs.declared.Written.the-variants.{Bytes, Refused as Unwritten}
+use Rattle.fields.specs.declared.Written.the-variants.{Bytes}
 use Rattle.fields.specs.Every.{AreBytes, Every}
-use Rattle.fields.specs.Order.{Test, inOrder}
-use Rattle.fields.specs.Bytes.{fromBytes, pack, toBytes, total, unpack}
+use Rattle.fields.specs.Bytes.{pack, toBytes, total, unpack}
 use Rattle.fields.specs.Rows.{isPresent, isTag, lengthOf, rowOf, widthIf, widthsOf}
 use Rattle.fields.specs.Numbers.{Held, fieldWith, itself, numbersOf, present}
 use Rattle.fields.specs.Checks.{isCell, isNamed, isSelected, valueChecks}

@@ -76,7 +76,7 @@ vacancyTests a s = each (vacant s) (λ c. Refuse LiveCell) (gives (a .change))
 abbrev pub guardTests : Act → State → List (Test Answer)
 guardTests a s = test (holds s (a .guard)) (Refuse AssertionFails) ∷ []
 
-pub passedBy : (races : List (Test Answer)) (a : Act) (s : State) → Every Stops races → checkBy races a s ≡ Go → PassedBy races a s
+passedBy : (races : List (Test Answer)) (a : Act) (s : State) → Every Stops races → checkBy races a s ≡ Go → PassedBy races a s
 unfolding checkBy
 passedBy races a s stops e =
     let all = roomTests a s ++ (races ++ (setTests a s ++ (vacancyTests a s ++ guardTests a s))) in

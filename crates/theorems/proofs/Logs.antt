@@ -24,7 +24,7 @@ use Rattle.rules.specs.declared.Act.{Act}
 use Rattle.rules.specs.declared.Answer.{Answer}
 use Rattle.rules.specs.declared.Answer.the-variants.{Go, Race, Refuse}
 use Rattle.rules.specs.declared.Verdict.the-variants.{Accepted}
-use Rattle.rules.specs.State.{State, fresh, live}
+use Rattle.rules.specs.State.{State, fresh}
 use Rattle.rules.specs.Commands.{actOf}
 use Rattle.rules.specs.Check.{check}
 use Rattle.rules.specs.Effect.{effect}
@@ -43,7 +43,7 @@ parse-some n [] h = absurd (not-suc-le-zero h)
 parse-some n (x ∷ b) h = refl
 
 -- the bytes of readable fields parse as those fields
-pub parse-bytes : (n : ℕ) (fs : List Field) → Every Readable fs → length fs ≤ n → parse n (bytesOf fs) ≡ record { fields = fs; end = whole }
+parse-bytes : (n : ℕ) (fs : List Field) → Every Readable fs → length fs ≤ n → parse n (bytesOf fs) ≡ record { fields = fs; end = whole }
 parse-bytes zero [] a h = refl
 parse-bytes (suc n) [] a h = refl
 parse-bytes zero (f ∷ fs) a h = absurd (not-suc-le-zero h)

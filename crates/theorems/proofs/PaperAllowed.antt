@@ -21,7 +21,7 @@ use Rattle.rules.specs.State.{State, freed, live, numberAt, pointer, statusOf}
 use Rattle.rules.specs.Acts.{gives, through, touched}
 use Rattle.rules.specs.Check.{check, each, holds, points, roomFor, vacant, valid}
 use Rattle.rules.proofs.Passed.{Clear, clear-each, passBy}
-use Rattle.theorems.specs.Paper.{Asgn-load, Asgn-read, Asgn-store, Asgn-write, Asrt, Com, Computation, InUse, Malloc1, Malloc2, PointerRace, Rule, Update, cell, dataOf, defined, freedIn, heapOf, passes, pointerVar, validIn}
+use Rattle.theorems.specs.Paper.{Asgn-load, Asgn-read, Asgn-store, Asgn-write, Asrt, Com, Computation, InUse, Malloc1, Malloc2, PointerRace, Rule, Update, cell, dataOf, defined, freedIn, heapOf, pointerVar, validIn}
 use Rattle.theorems.specs.Beside.{Says, Shows, returned, says-apart, says-constant, says-copy, says-equal, says-free, says-load, says-malloc, says-read, says-same, says-store, says-sum, says-unequal, says-write}
 use Rattle.theorems.proofs.Basics.{split}
 use Rattle.theorems.proofs.PaperReading.{allocated-live, no-address, same-address}

@@ -80,7 +80,7 @@ traced-free {w} {w′} {st} {st′} c T hc e f = record {
 adr-unset : adrOf unset ≡ seg
 adr-unset = rw unset-unset refl
 
-pub adr-cell : (c : ℕ) → c < 1024 → adrOf c ≡ cell c
+adr-cell : (c : ℕ) → c < 1024 → adrOf c ≡ cell c
 unfolding isUnset
 adr-cell c h = rw (cell-small c h, ne-eqb c 1024 (λ q. omega arith)) refl
 

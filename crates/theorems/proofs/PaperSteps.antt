@@ -26,7 +26,7 @@ use Rattle.theorems.specs.Paper.{Adr, Asgn-compute, Asgn-copy, Asgn-load
 use Rattle.theorems.specs.Beside.{Shows, adrOf, dvalOf, isAllocated, isThere, placeOf, pvalOf, validOf}
 use Rattle.theorems.proofs.Basics.{eqb-self, eqb-turn, split}
 use Rattle.theorems.proofs.States.{Within}
-use Rattle.theorems.proofs.Kept.{Inv, found, live-below, live-cell}
+use Rattle.theorems.proofs.Kept.{Inv, live-below, live-cell}
 use Rattle.theorems.proofs.PaperReading.{Traced, adr-set, allocated-live, dval-cell, dval-free, dval-new, dval-used, dval-variable, freed-free, freed-give, mark-free, mark-give, mark-write, not-in-use, pval-free, pval-new, pval-used, pval-write}
 
 -- an update with its rule, and what the state shows after it

@@ -11,7 +11,6 @@ use lib.Dec.{eqb}
 use Rattle.fields.proofs.Passing.{either}
 use Rattle.fields.specs.declared.Field.{Field}
 use Rattle.fields.specs.Every.{Every}
-use Rattle.fields.proofs.RoundTrip.{there}
 use Rattle.rules.specs.declared.ReplayCell.{ReplayCell}
 use Rattle.rules.specs.declared.Change.{Change}
 use Rattle.rules.specs.declared.Change.the-variants.{Allocate, Move, Put, Release, Stay}
@@ -65,7 +64,7 @@ module _ (choose : State → State → ReplayCell) (I : State → State → Type
   abbrev Both : State → State → Matching → Type 0
   Both R S m = Pair R S (flat m) × I R S
 
-  pub along : (fs : List Field) (R S : State) (m : Matching) (n k l : ℕ) → Both R S m → All NamedAct fs → run fs R .verdict ≡ Accepted n k l
+  along : (fs : List Field) (R S : State) (m : Matching) (n k l : ℕ) → Both R S m → All NamedAct fs → run fs R .verdict ≡ Accepted n k l
       → Along Both fs (replayBy choose R S fs) R S m × All NamedAct (replayBy choose R S fs)
   along [] R S m n k l P w e = (P, tt)
   along (f ∷ fs) R S m n k l P w e =
@@ -166,7 +165,7 @@ next-keeps R S m a P B n e = λ k h.
     let q = beyond-cell R (a .change) k h in
     unused-step (b .change) S k (P .right) (named-step m P c a z n .1) (looked b S (passed b S (check-step m P c a z e)) .frees) (q .0) (B k (q .1))
 
-pub replay-next : (fs : List Field) (R S : State) → replayBy inOrderOfMallocs R S fs ≡ replay R fs
+replay-next : (fs : List Field) (R S : State) → replayBy inOrderOfMallocs R S fs ≡ replay R fs
 replay-next [] R S = refl
 replay-next (f ∷ fs) R S =
     let g : Field = copyField R (nextCell R) f in

@@ -53,7 +53,7 @@ own-selector c j k g = split (eqb (2 * c + 1) j)
     (λ f. rw (e, f, eq-eqb c (j / 2) (omega (arith, eqb-true (2 * c) j f))) (ap g (eqb-true (2 * c) j f)))
     (λ f. rw (e, f, ne-eqb c (j / 2) (λ q. omega (arith, eqb-false (2 * c + 1) j e, eqb-false (2 * c) j f)))))
 
-pub word-changeOwn : (f : ℕ → ℕ) (c j : ℕ) (l : List ℕ) → length l ≡ 2048 → c < 1024 → wordAt (changeOwn f c l) j ≡ cond (eqb c (j / 2)) (f (wordAt l j)) (wordAt l j)
+word-changeOwn : (f : ℕ → ℕ) (c j : ℕ) (l : List ℕ) → length l ≡ 2048 → c < 1024 → wordAt (changeOwn f c l) j ≡ cond (eqb c (j / 2)) (f (wordAt l j)) (wordAt l j)
 word-changeOwn f c j l n h =
     let first : List ℕ = changeWord f (2 * c) l in
     let other : wordAt first (2 * c + 1) ≡ wordAt l (2 * c + 1) = getD-set-other l (2 * c) (2 * c + 1) (f (wordAt l (2 * c))) unset (λ q. omega arith) in

@@ -3,7 +3,6 @@
 use mathlib.Core.Path.{_∙_, _≡_, refl, sym}
 use mathlib.Core.Logic.{inl, inr}
 use native.Mathlib.Omega.{arith}
-use Rattle.fields.specs.Limits.{cells}
 use Rattle.rules.specs.declared.Place.{Place}
 use Rattle.rules.specs.declared.Place.the-variants.{PointerWord}
 use Rattle.rules.specs.Words.{afterFree, cellOf, invalidated, isUnset, isValid, unset}

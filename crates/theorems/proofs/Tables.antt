@@ -18,7 +18,7 @@ use Rattle.fields.specs.Numbers.{numbersOf}
 use Rattle.fields.specs.Checks.{isCell, isNamed, isSelected, mayName, valueChecks}
 use Rattle.fields.proofs.Passing.{Passes}
 use Rattle.fields.proofs.Packing.{Fit}
-use Rattle.fields.proofs.RoundTrip.{Readable, there}
+use Rattle.fields.proofs.RoundTrip.{Readable}
 use Rattle.rules.specs.declared.ReplayCell.{ReplayCell}
 use Rattle.rules.specs.declared.Change.{Change}
 use Rattle.rules.specs.declared.Change.the-variants.{Allocate, Move, Put, Release, Stay}
@@ -27,7 +27,6 @@ use Rattle.rules.specs.State.{State}
 use Rattle.rules.specs.Acts.{gives}
 use Rattle.rules.specs.Commands.{actOf, commandOf, commands, does, noCommand}
 use Rattle.rules.specs.Replay.{copyAct, copyChange, copyField, recast}
-use Rattle.rules.specs.Cases.{right}
 use Rattle.theorems.proofs.Basics.{or-second, split}
 use Rattle.theorems.proofs.Kept.{Named, NamedAct}
 use Rattle.theorems.proofs.Ranges.{Bounded, Small, startingData-below}

@@ -109,7 +109,7 @@ module _ {R S : State} {m : ℕ → ℕ} (P : Pair R S m) where
       (λ f. rw (partner-set m (word R x) e, partner-set m (word R y) f) (eqb-m (word R x) (word R y) (word-live x h e) (word-live y k f))))
 
   -- ---- pointer variables
-  pub pointer-valid : (p : ℕ) → isValid (pointer R p) ≡ true → isValid (pointer S p) ≡ true
+  pointer-valid : (p : ℕ) → isValid (pointer R p) ≡ true → isValid (pointer S p) ≡ true
   pointer-valid p h = rw (P .tied .words (PointerWord p) tt h) (partner-valid (PointerWord p) h)
 
   pointer-match : (p : ℕ) → isValid (pointer R p) ≡ true → cellOf (pointer S p) ≡ partner m (cellOf (pointer R p))

@@ -3,9 +3,9 @@ use Prim.Native.Nat.{_+_, _-_, _≤_}
 use Rattle.fields.proofs.Digits.{put-done, put-step}
 use Rattle.fields.specs.Bytes.{toBytes}
 use borrow.Author.Needs.{needs}
-use lib.ListN.{length, length-set}
+use lib.ListN.{length}
 use lib.Seq.{sets}
-use mathlib.Core.Path.{_≡_, _∙_, refl, sym}
+use mathlib.Core.Path.{_≡_, _∙_, sym}
 use native.Mathlib.Nat.{add-zero, sub-zero}
 use Rattle.fields.proofs.writer.put.Statement.{statement}
 use Rattle.fields.proofs.writer.put.Tie as tie

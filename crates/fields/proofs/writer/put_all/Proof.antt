@@ -6,7 +6,7 @@ use borrow.Author.Needs.{needs}
 use lib.ListN.{drop, drop-of-length-le, length}
 use lib.Seq.{length-sets, sets}
 use mathlib.Core.List.{[]}
-use mathlib.Core.Path.{_≡_, _∙_, ap, refl, sym}
+use mathlib.Core.Path.{_≡_, _∙_, ap, refl}
 use native.Mathlib.Omega.{arith}
 use Rattle.fields.proofs.writer.put_all.Statement.{statement}
 use Rattle.fields.proofs.writer.put_all.Tie as tie
