@@ -19,8 +19,8 @@ use Rattle.theorems.proofs.Logs.{ReplayOf, kept-log, replay-of, taken-n
 -- without a pointer race has a run in which no cell is given out twice, and the valid parts of their heaps are the same up to the
 -- names of cells. The replay of an accepted log is accepted with the same three numbers, has the log's length, and its state matches
 -- the recording's before the first field and after each
-pub demand3 : (log : List ℕ) (fields mallocs live : ℕ) → AreBytes log → runBytes logFields log fresh .verdict ≡ Accepted fields mallocs live → ReplayOf logFields log fields mallocs live
-demand3 log fields mallocs live b e = replay-of logFields log fields mallocs live b e
+pub prf-guarantee : (log : List ℕ) (fields mallocs live : ℕ) → AreBytes log → runBytes logFields log fresh .verdict ≡ Accepted fields mallocs live → ReplayOf logFields log fields mallocs live
+prf-guarantee log fields mallocs live b e = replay-of logFields log fields mallocs live b e
 
 -- the instrumented check of source 004's Proposition 2, for a log that reuses no cell: where no two allocations name one cell, the
 -- reading without marks gives the same verdict; demand 3 asks it of logs whose fields all read well, and it holds of the others too
