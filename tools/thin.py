@@ -1,20 +1,19 @@
 #!/usr/bin/env python3
-"""thin.py CONFIG : writes the proof by hand of a thin function
+"""thin.py CONFIG : writes the proof by hand of a thin function, from the repository's root; `rt fmt` then lays it out
 
     pub fn OUTER(p1, .., tally: &mut S) -> V { let j = CORE(p1, .., *tally); *tally = j.tally; j.verdict }
 
 where each p is a `&[n]`, a `&mut [n]` (n a number type) or a number/bool, CORE takes the same with the struct by value at the end,
-and answers a struct J { verdict: V (an enum), tally: S }, with an ensures
-    (r ≡ MEANT) × (now (m1 .exit) ≡ LAST1) × ..     for each `&mut` slice m in order.
+and answers a struct J { verdict: V (an enum), tally: S }. Both have the same ensures, one relation SAID over what went in and what
+came out. tools/thin-judge.json and tools/thin-replay.json are the configs.
 """
-import sys, json
+import json, os, re, sys
 cfg = json.load(open(sys.argv[1]))
 crate, outer, core = cfg['crate'], cfg['outer'], cfg['core']
 S, V, J = cfg['S'], cfg['V'], cfg['J']            # struct lent, enum answered, struct of both
 ps = cfg['params']                                 # [{name, kind: shr|mut|num, elem: u8..}]
 uses = cfg.get('uses', [])                         # extra use lines (definitions that the ensures cites)
-meant = cfg.get('meant')                               # text: Judged, over xNAME (a list), NAME for a number, and h, the record
-lasts = cfg.get('lasts')                               # {mutname: text}
+# cfg['said']: SAID as text, over rNAME .now (a slice's list), nNAME (a number), h (the struct lent), {r} (the answer), {NAME} (a `&mut` slice's last list)
 dash = lambda s: s.replace('_', '-')
 n = len(ps) + 1
 refs = [p for p in ps if p['kind'] in ('shr', 'mut')]
@@ -38,8 +37,6 @@ def nestT(xs):
 def row(p):
     if p['kind'] == 'num': return p['elem']
     return '%s (named %d) κ%d %s' % ('ShrSlice' if p['kind'] == 'shr' else 'MutSlice', p['lft'], p['lft'], p['elem'])
-def rowκ(p):
-    return row(p)
 def val(p):
     if p['kind'] == 'num':
         return 'vbool n%s' % p['name'] if p['elem'] == 'bool' else 'vint %s n%s' % (W[p['elem']], p['name'])
@@ -96,9 +93,7 @@ use denote.Triple.Clauses.{ensured, lasts}
 use denote.Triple.Walked.{says, Stays, stay-ref, stay-none, stay-none-slice, gave-slice, walkOf, AllGo, goes-none, goes-none-slice, goes-gave-slice, goes-ref, Walks, ends-at, walked, walk-meets}
 use denote.Exit.{yes}''')
 for u in uses: o(u)
-own_crate = lambda x: cfg.get(x, crate) == crate
-TR = ('Rattle.%s.specs' % crate, 'Rattle.%s.proofs' % crate) if own_crate('typecrate') else ('Rattle.%s.specs' % cfg['typecrate'], 'Rattle.%s.proofs' % cfg['typecrate'])
-CR = 'Rattle.%s.proofs' % crate if own_crate('corecrate') else 'Rattle.%s.proofs' % cfg['corecrate']
+CR = 'Rattle.%s.proofs' % crate if cfg.get('corecrate', crate) == crate else 'Rattle.%s.proofs' % cfg['corecrate']
 CC = cfg.get('corecrate', crate)
 R = 'Rattle·%s·' % crate
 tcs = cfg['typecrates']
@@ -144,8 +139,6 @@ o('  abbrev at : %s' % nestT(['List Val'] * n)); o('  at = %s' % nest(['%s ∷ [
 cκs, cqs = nest(['κ%d' % k for k in range(K - 1)]), nest(['q%d' % k for k in range(K - 1)])
 Y = '((%s, %s, tt, x, at), tt)' % (κs, qs)
 o('  abbrev Post : Val → SProp 𝓤'); o('  Post = walkOf 𝓤 H A outer.ended stayed (outer.clauses 𝓤 H A mem′ run) .post %s' % Y); o('')
-if meant: o('  -- what the answer and the last lists are'); o('  abbrev meant : %s' % J); o('  meant = %s' % meant); o('')
-for p in muts if lasts else []: o('  abbrev last-%s : List ℕ' % p['name']); o('  last-%s = %s' % (p['name'], lasts[p['name']])); o('')
 o('  -- what the callee\'s triple binds outside')
 o('  abbrev core-x : %s' % nestT([('Bool' if p['elem'] == 'bool' else 'ℕ') if p['kind'] == 'num' else 'RefT (List ℕ)' for p in ps] + [S]))
 o('  core-x = %s' % nest([den(p) for p in ps] + ['h'])); o('')
@@ -158,14 +151,7 @@ o('  goes-core : ent 𝓤 (⋆ 𝓤 H A (%s ∷ ‵ (owns (%s) core-x core-at) �
 o('  goes-core = qed W (%s ∷ ‵ (owns (%s) core-x core-at) ∷ []) ∵ join ! $ frame ! $ done !' % (toks(K - 1), rows_core)); o('')
 # exits
 zsb = ' '.join('(z%s : List ℕ)' % p['name'] for p in muts)
-def said(r, z):
-    if 'said' in cfg: return cfg['said'].format(r=r, **{p['name']: z(p) for p in muts})
-    return ' × '.join(['(%s ≡ meant)' % r] + ['(%s ≡ last-%s)' % (z(p), p['name']) for p in muts]) 
-def proj(i, m):   # i-th of m right-nested without end
-    return '' if m == 1 else ' .%d' % i
-M1 = 1 + len(muts)
-parts = ['ap (λ (j : %s). j .verdict) (e%s)' % (J, proj(0, M1)), 'ap (λ (j : %s). j .tally) (e%s)' % (J, proj(0, M1))] + ['e' + proj(i + 1, M1) for i in range(len(muts))]
-ens_exit = cfg.get('exit') or '(' + ', '.join(parts) + ')'   # `×` is flat
+def said(r, z): return cfg['said'].format(r=r, **{p['name']: z(p) for p in muts})
 vv = 'EL.val Enm.the-type Enm′.the-laws (r .verdict)'
 class Ctx:
     def __init__(s, items): s.c = list(items); s.t = []
@@ -202,7 +188,7 @@ for p in reversed(ps):
 c.mv('acc', 'own'); c.e('done !')
 o('  exits r %s e %s =' % (' '.join('z' + p['name'] for p in muts), ' '.join('l' + p['name'] for p in muts)))
 o('      qed W (%s) ∵' % lhs)
-o('      suffices ! _ (ends-at 𝓤 H A outer.ended stayed (outer.clauses 𝓤 H A mem′ run) W %s (%s) (r .verdict) %s %s) $ says ! %s $' % (Y, vv, nest(['z' + p['name'] if p['kind'] == 'mut' else 'tt' for p in ps] + ['r .tally']), nest(['l' + p['name'] if p['kind'] == 'mut' else 'tt' for p in ps] + ['tt']), ens_exit))
+o('      suffices ! _ (ends-at 𝓤 H A outer.ended stayed (outer.clauses 𝓤 H A mem′ run) W %s (%s) (r .verdict) %s %s) $ says ! e $' % (Y, vv, nest(['z' + p['name'] if p['kind'] == 'mut' else 'tt' for p in ps] + ['r .tally']), nest(['l' + p['name'] if p['kind'] == 'mut' else 'tt' for p in ps] + ['tt'])))
 o('      ' + ' $ '.join(c.t)); o('')
 # walk
 rooms = ''.join('Room %s (length (r%s .now)) → ' % (p['elem'], p['name']) for p in refs)
@@ -277,7 +263,7 @@ c.rep(1, ['tr', 'ens'])
 zT = nestT(['List ℕ' if p['kind'] == 'mut' else 'Unit {0}' for p in ps] + ['Unit {0}'])
 zp = {}
 for i, p in enumerate(ps): zp[p['name']] = '(zs' + ' .1' * i + ' .0)'
-facts = said('r', lambda p: zp[p['name']][1:-1] if False else zp[p['name']])
+facts = said('r', lambda p: zp[p['name']])
 line('split ! $ move ! (1 ∷ []) $ use1 W (some (λ (zs : %s). ‵ (lasts callee.ended %s core-x zs) ⊛ raw (fact 𝓤 (%s)))) (id⊢ 𝓤 _) $ pick ! (λ zs.' % (zT, cκs, facts)); closeparens += 1
 line('split ! $ move ! (1 ∷ []) $ heard ! (%s) (λ e.' % facts); closeparens += 1
 c.c = ['acc', 'tr'] + c.c[2:]
@@ -341,6 +327,14 @@ unfolding code.routine tablesOf
     (tables 𝓤 H 𝓜 𝓡 code.env .C) (tables 𝓤 H 𝓜 𝓡 code.env .Λ) %s code.function (code.unfolded 𝓤 H 𝓜 𝓡)
     (outer-meets 𝓤 H (𝓖 .A) (givenOf 𝓤 H 𝓜 𝓖) (𝓜 .mem) (𝓡 .run) (tablesOf 𝓤 H 𝓜 (tables 𝓤 H 𝓜 𝓡 code.env))
     (cited 𝓤 H (Core 𝓤 H (𝓖 .A) (𝓜 .mem) (𝓡 .run)) 𝓜 𝓡 code.env %s callee-def.routine code.calls-%s·%s (callee-thm.met 𝓤 H 𝓜 𝓖 𝓡)))''' % (KC, dash(outer), dash(outer), KO, KC, CC, dash(core)))
-import os
+# of each `use` line, only the names that the walk names
+lines = '\n'.join(out).split('\n')
+words = set(re.findall(r'[^\s(){};,.]+', '\n'.join(l for l in lines if not l.startswith('use '))))
+def trimmed(line):
+    m = re.fullmatch(r'(use .*)\.\{(.*)\}', line)
+    if not m: return line
+    kept = [n for n in m.group(2).split(', ') if n.split(' as ')[-1].strip('_') in words]
+    return '%s.{%s}' % (m.group(1), ', '.join(kept)) if kept else None
+lines = [l for l in map(trimmed, lines) if l is not None]
 path = cfg['path']; os.makedirs(os.path.dirname(path), exist_ok=True)
-open(path, 'w').write('\n'.join(out) + '\n')
+open(path, 'w').write('\n'.join(lines) + '\n')
