@@ -5,7 +5,7 @@
 
 where each p is a `&[n]`, a `&mut [n]` (n a number type) or a number/bool, CORE takes the same with the struct by value at the end,
 and answers a struct J { verdict: V (an enum), tally: S }. Both have the same ensures, one relation SAID over what went in and what
-came out. tools/thin-judge.json and tools/thin-replay.json are the configs.
+came out. tools/thin-judge.json and tools/thin-replay.json are the configs; tests/thin.sh compares what they give with crates/tallied.
 """
 import json, os, re, sys
 cfg = json.load(open(sys.argv[1]))
