@@ -4,8 +4,8 @@ pub mod Lists
 pub mod Passing
 pub mod Digits
 pub mod Framing
+pub mod Tags
 pub mod Writing
 pub mod Packing
 pub mod RoundTrip
 pub mod OneResult
-pub mod Tags

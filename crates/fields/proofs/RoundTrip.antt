@@ -1,12 +1,12 @@
 -- Demand 2's last sentence: fields read and written again give the same bytes; every writable field reads back as itself.
 -- Assumes nothing.
-use mathlib.Core.Bool.{Bool, true, false, cond, and-eq-true-iff}
+use mathlib.Core.Bool.{Bool, true, false, cond}
 use mathlib.Core.List.{List, [], _∷_, _++_}
 use mathlib.Core.Path.{_≡_, refl, sym, ap, subst}
 use Prim.Native.Nat.{ℕ, zero, suc, _+_, _*_, _/_, _%_, _≤_, _<_}
 use native.Mathlib.Omega.{arith}
 use borrow.Author.Tests.{eq-eqb, eqb-true, le-leb, leb-true, ltb-true, ne-eqb}
-use lib.Dec.{eqb, leb, ltb}
+use lib.Dec.{eqb, leb}
 use lib.ListN.{length, length-append, take, drop, take-append-drop}
 use lib.Seq.{drop-drop, take-append-seam}
 use Rattle.fields.specs.declared.rows.Slot.{Slot}
@@ -25,6 +25,7 @@ use Rattle.fields.specs.Write.{Writing, fieldBytes, writeField, writing,
 use Rattle.fields.proofs.Digits.{length-pack}
 use Rattle.fields.proofs.Packing.{Fit, cap, fit-unpack, pack-unpack, unpack-pack}
 use Rattle.fields.proofs.Passing.{Passes, all-pass, all-passed, every-cut, every-join}
+use Rattle.fields.proofs.Tags.{tag-below}
 use Rattle.fields.proofs.Writing.{length-fieldBytes, length-most, refused, roomTest, writes, wrote}
 
 -- a field whose bytes read as that very field
@@ -32,11 +33,6 @@ pub record Readable (f : Field) : Type 0 where
   pub tag : isTag (f .tag) ≡ true
   pub fit : Fit (widthsOf (rowOf (f .tag))) (numbersOf f)
   pub right : Every Passes (valueChecks (rowOf (f .tag)) f)
-
--- ---- a tag is small
-tag-small : (tag : ℕ) → isTag tag ≡ true → tag < 14
-unfolding isTag
-tag-small tag e = ltb-true tag 14 (and-eq-true-iff (ltb 0 tag) (ltb tag 14) .0 e .1)
 
 -- ---- written, then read
 read-whole : (x y z : ℕ) (v : List ℕ) (f : Field) → isTag x ≡ true → y + 256 * z ≡ lengthOf x → lengthOf x ≤ length v
@@ -53,7 +49,7 @@ read-whole x y z v f known told there field right =
 bytes-shape : (f : Field) → isTag (f .tag) ≡ true → fieldBytes f ≡ f .tag ∷ lengthOf (f .tag) ∷ 0 ∷ pack (widthsOf (rowOf (f .tag))) (numbersOf f)
 unfolding fieldBytes
 bytes-shape f known =
-    let t = tag-small (f .tag) known in
+    let t = tag-below (f .tag) known in
     let n = length-most (f .tag) in
     let tag : f .tag % 256 ≡ f .tag = omega arith in
     let low : lengthOf (f .tag) % 256 ≡ lengthOf (f .tag) = omega arith in

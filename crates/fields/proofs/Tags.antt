@@ -1,10 +1,18 @@
--- A tag that has no line of its own in a table has the line of tag 0.
+-- What a tag says of a table with a line for each: a tag is below its length, and one without a line has the line of tag 0.
 -- Assumes nothing.
 use Prim.Native.Nat.{ℕ, zero, suc, _-_, _<_}
+use borrow.Author.Tests.{ltb-true}
+use lib.Dec.{ltb}
 use lib.ListN.{List·getD-eq-default, getD, length}
+use mathlib.Core.Bool.{and-eq-true-iff, true}
 use mathlib.Core.List.{List}
 use mathlib.Core.Path.{_≡_}
 use native.Mathlib.Omega.{arith}
+use Rattle.fields.specs.Rows.{isTag, rows}
+
+pub tag-below : (tag : ℕ) → isTag tag ≡ true → tag < length rows
+unfolding isTag
+tag-below tag known = ltb-true tag (length rows) (and-eq-true-iff (ltb 0 tag) (ltb tag (length rows)) .0 known .1)
 
 -- a tag that is none of 1 to k, as a match on it tells
 abbrev pub NoneTo : ℕ → ℕ → Type 0

@@ -2,17 +2,16 @@
 -- Assumes nothing.
 use Prim.Native.Nat.{_<_, suc, zero, ℕ}
 use mathlib.Core.Path.{_≡_, refl}
-use mathlib.Core.Bool.{and-eq-true-iff, true}
+use mathlib.Core.Bool.{true}
 use mathlib.Core.List.{List, [], _∷_}
 use native.Mathlib.Nat.{le-of-suc-le-suc, not-suc-le-zero}
 use native.Mathlib.Omega.{arith}
-use borrow.Author.Tests.{ltb-true}
-use lib.Dec.{ltb}
 use lib.ListN.{drop, getD, length}
 use Rattle.fields.specs.declared.Field.{Field}
 use Rattle.fields.specs.declared.rows.Row.{Row}
 use Rattle.fields.specs.Rows.{isTag, noRow, rowOf, rows}
 use Rattle.fields.proofs.RoundTrip.{Readable}
+use Rattle.fields.proofs.Tags.{tag-below}
 use Rattle.rules.specs.declared.Act.{Act}
 use Rattle.rules.specs.Commands.{actOf, commandOf, commands, noCommand}
 use Rattle.theorems.specs.Paper.{Assert, Com, Compute, Copy, Free, Load, Malloc, ReadData, Selector, Store, WriteData, index, negated, next₀, next₁, sameData, samePointers}
@@ -70,4 +69,4 @@ readable-says f R = by (f .tag) (R .tag) f (facts (rowOf (f .tag)) f (R .right))
   where
     by : (tag : ℕ) → isTag tag ≡ true → Sayable (rowOf tag) (commandOf tag)
     by zero known = unfold isTag in (clash known refl)
-    by (suc i) known = unfold isTag rowOf commandOf in (at-known Sayable (drop 1 rows) (drop 1 commands) i (omega (arith, ltb-true (suc i) 14 (and-eq-true-iff (ltb 0 (suc i)) (ltb (suc i) 14) .0 known .1))) sayable)
+    by (suc i) known = unfold isTag rowOf commandOf in (at-known Sayable (drop 1 rows) (drop 1 commands) i (le-of-suc-le-suc (tag-below (suc i) known)) sayable)
