@@ -1,8 +1,8 @@
--- Source 004 beside the rules: a command that the memory-managed semantics has a step for, that raises no pointer race, and that
--- is not one malloc too many (11), passes. So a command that is refused with 12, 13 or 14 has no step. Assumes nothing.
+-- Source 004 beside the rules: a field whose commands have steps of the memory-managed semantics, raise no pointer race, and are
+-- not one malloc too many (11), passes. So where a field is refused with 12, 13 or 14, its commands have no steps. Assumes nothing.
 use Prim.Native.Nat.{ℕ}
 use mathlib.Core.Path.{_∙_, _≡_, refl, subst, sym}
-use mathlib.Core.Bool.{false, true}
+use mathlib.Core.Bool.{Bool, true}
 use mathlib.Core.Logic.{inl, inr}
 use mathlib.Core.List.{List, [], _∷_}
 use native.Mathlib.Omega.{arith}
@@ -11,8 +11,8 @@ use lib.Dec.{eqb}
 use Rattle.fields.specs.declared.RecordedCell.{RecordedCell}
 use Rattle.fields.specs.declared.Refusal.{Refusal}
 use Rattle.fields.specs.declared.Refusal.the-variants.{TooManyMallocs}
-use Rattle.fields.specs.Every.{Every}
 use Rattle.fields.specs.Order.{inOrder}
+use Rattle.rules.specs.declared.Change.{Change}
 use Rattle.rules.specs.declared.Act.{Act}
 use Rattle.rules.specs.declared.Answer.{Answer}
 use Rattle.rules.specs.declared.Answer.the-variants.{Go, Race, Refuse}
@@ -21,12 +21,12 @@ use Rattle.rules.specs.State.{State, freed, live, numberAt, pointer, statusOf}
 use Rattle.rules.specs.Acts.{gives, through, touched}
 use Rattle.rules.specs.Check.{check, each, holds, points, roomFor, vacant, valid}
 use Rattle.rules.proofs.Passed.{Clear, clear-each, passBy}
-use Rattle.theorems.specs.Paper.{Asgn-load, Asgn-read, Asgn-store, Asgn-write, Asrt, Com, Computation, InUse, Malloc1, Malloc2, PointerRace, Rule, Update, cell, dataOf, defined, freedIn, heapOf, pointerVar, validIn}
-use Rattle.theorems.specs.Beside.{Says, Shows, returned, says-apart, says-constant, says-copy, says-equal, says-free, says-load, says-malloc, says-read, says-same, says-store, says-sum, says-unequal, says-write}
+use Rattle.theorems.specs.Paper.{Asgn-load, Asgn-read, Asgn-store, Asgn-write, Asrt, Assert, Com, Computation, Cond, Heap, InUse, Malloc1, Malloc2, Rule, Update, cell, dataOf, defined, freedIn, heapOf, passes, pointerVar, then, validIn}
+use Rattle.theorems.specs.Beside.{RaceIn, Returns, Says, Shows, Steps, Takes, assertion, both, change, says-constant, says-copy, says-free, says-load, says-malloc, says-read, says-store, says-sum, says-write}
 use Rattle.theorems.proofs.Basics.{split}
 use Rattle.theorems.proofs.PaperReading.{allocated-live, no-address, same-address}
 use Rattle.theorems.proofs.PaperRaces.{SomeInvalid, check-parts, others, pointer-race-is-race, races, some-invalid-race}
-use Rattle.theorems.proofs.PaperSteps.{same-data-pass, same-pointers-pass}
+use Rattle.theorems.proofs.PaperSteps.{guard-passes, shows-assert}
 
 -- no variable of a list is invalid
 all-valid : (s : State) (l : List ℕ) → (SomeInvalid s l → ⊥) → Clear (valid s) l
@@ -40,6 +40,9 @@ record Steady (a : Act) (s : State) : Type 0 where
   pointing : Clear (points s) (through (a .change))
   unlive : Clear (vacant s) (gives (a .change))
   holding : holds s (a .guard) ≡ true
+
+asserted : {h : Heap} {freed : ℕ → Bool} {k : Cond} {up : List Update} → Rule h freed (Assert k) up → passes true h k ≡ true
+asserted (Asrt e) = e
 
 module _ (τ : Computation) (s : State) (H : Shows s τ) where
   points-on : (p a : ℕ) → heapOf τ .pval (pointerVar p) ≡ defined (cell a) → points s p ≡ true
@@ -55,30 +58,34 @@ module _ (τ : Computation) (s : State) (H : Shows s τ) where
   freed-vacant : (c : RecordedCell) → freedIn τ (c .0) ≡ true → vacant s c ≡ true
   freed-vacant c e = let status : statusOf s (c .0) ≡ freed = eqb-true (statusOf s (c .0)) freed (sym (H .frees (c .0)) ∙ e) in rw status refl
 
-  steady : (a : Act) (c : Com) (up : List Update) → Says a c → Rule (heapOf τ) (freedIn τ) c up → Every (λ r. returned up ≡ defined (cell (r .0))) (gives (a .change)) → Steady a s
-  steady a c up (says-malloc {p} {d} {c = r}) (Malloc1 {a = b} n) named = record { pointing = tt; unlive = (unused-vacant r (subst (λ (k : ℕ). InUse (heapOf τ) k → ⊥) (same-address (named .0)) n), tt); holding = refl }
-  steady a c up (says-malloc {p} {d} {c = r}) (Malloc2 {a = b} e) named = record { pointing = tt; unlive = (freed-vacant r (rw (same-address (named .0)) at e), tt); holding = refl }
-  steady a c up (says-free {p}) rule named = record { pointing = tt; unlive = tt; holding = refl }
-  steady a c up (says-copy {p} {q}) rule named = record { pointing = tt; unlive = tt; holding = refl }
-  steady a c up (says-load {p} {q} i) (Asgn-load {a = b} e f) named = record { pointing = (points-on q b e, tt); unlive = tt; holding = refl }
-  steady a c up (says-store {p} {q} i) (Asgn-store {a = b} e f) named = record { pointing = (points-on p b e, tt); unlive = tt; holding = refl }
-  steady a c up (says-read {x} {p}) (Asgn-read {a = b} e f) named = record { pointing = (points-on p b e, tt); unlive = tt; holding = refl }
-  steady a c up (says-write {p} {x}) (Asgn-write {a = b} e f) named = record { pointing = (points-on p b e, tt); unlive = tt; holding = refl }
-  steady a c up (says-constant {x} {n}) rule named = record { pointing = tt; unlive = tt; holding = refl }
-  steady a c up (says-sum {x} {y} {z}) rule named = record { pointing = tt; unlive = tt; holding = refl }
-  steady a c up (says-same {p} {q}) (Asrt e) named = record { pointing = tt; unlive = tt; holding = sym (same-pointers-pass τ s H true p q) ∙ e }
-  steady a c up (says-apart {p} {q}) (Asrt e) named = record { pointing = tt; unlive = tt; holding = sym (same-pointers-pass τ s H false p q) ∙ e }
-  steady a c up (says-equal {x} {y}) (Asrt e) named = record { pointing = tt; unlive = tt; holding = sym (same-data-pass τ s H true x y) ∙ e }
-  steady a c up (says-unequal {x} {y}) (Asrt e) named = record { pointing = tt; unlive = tt; holding = sym (same-data-pass τ s H false x y) ∙ e }
+  change-steady : (m : Change) (c : Com) (up : List Update) → Says m c → Rule (heapOf τ) (freedIn τ) c up → Returns up (gives m) → Clear (points s) (through m) × Clear (vacant s) (gives m)
+  change-steady m c up (says-malloc {p} {d} {c = r}) (Malloc1 {a = b} n) named = (tt, (unused-vacant r (subst (λ (k : ℕ). InUse (heapOf τ) k → ⊥) (same-address (named .0)) n), tt))
+  change-steady m c up (says-malloc {p} {d} {c = r}) (Malloc2 {a = b} e) named = (tt, (freed-vacant r (rw (same-address (named .0)) at e), tt))
+  change-steady m c up (says-free {p}) rule named = (tt, tt)
+  change-steady m c up (says-copy {p} {q}) rule named = (tt, tt)
+  change-steady m c up (says-load {p} {q} i) (Asgn-load {a = b} e f) named = ((points-on q b e, tt), tt)
+  change-steady m c up (says-store {p} {q} i) (Asgn-store {a = b} e f) named = ((points-on p b e, tt), tt)
+  change-steady m c up (says-read {x} {p}) (Asgn-read {a = b} e f) named = ((points-on p b e, tt), tt)
+  change-steady m c up (says-write {p} {x}) (Asgn-write {a = b} e f) named = ((points-on p b e, tt), tt)
+  change-steady m c up (says-constant {x} {n}) rule named = (tt, tt)
+  change-steady m c up (says-sum {x} {y} {z}) rule named = (tt, tt)
 
-  -- the step's address, where it is a malloc, being the one that the field names
-  pub allowed-passes : (a : Act) (c : Com) (up : List Update) → Says a c → Rule (heapOf τ) (freedIn τ) c up → Every (λ r. returned up ≡ defined (cell (r .0))) (gives (a .change))
-      → (PointerRace (validIn τ) c → ⊥) → Clear (roomFor s) (gives (a .change)) → check a s ≡ Go
-  allowed-passes a c up says rule named no-race room =
-      let st = steady a c up says rule named in
+module _ (thread : ℕ) (τ : Computation) (s : State) (H : Shows s τ) where
+  steady : (a : Act) (cs : List Com) (σ : Computation) → Takes a cs → Steps thread (gives (a .change)) τ cs σ → Steady a s
+  steady a cs σ (change {m} {c} w) st = let q = change-steady τ s H m c (st .0) w (st .1) (st .2) in record { pointing = q .0; unlive = q .1; holding = refl }
+  steady a cs σ (assertion {g} {k} w) st = record { pointing = tt; unlive = tt; holding = sym (guard-passes τ s H g k w) ∙ asserted (st .1) }
+  steady a cs σ (both {g} {k} {m} {c} w u none) st =
+      let ρ : Computation = then τ (record { thread = thread; command = Assert k; up = st .0 }) in
+      let later = st .3 in
+      let q = change-steady ρ s (shows-assert τ s H thread k (st .0) (st .1)) m c (later .0) u (later .1) (later .2) in
+      record { pointing = q .0; unlive = q .1; holding = sym (guard-passes τ s H g k w) ∙ asserted (st .1) }
+
+  pub allowed-passes : (a : Act) (cs : List Com) (σ : Computation) → Takes a cs → Steps thread (gives (a .change)) τ cs σ → (RaceIn (validIn τ) cs → ⊥) → Clear (roomFor s) (gives (a .change)) → check a s ≡ Go
+  allowed-passes a cs σ takes steps no-race room =
+      let st = steady a cs σ takes steps in
       passBy (each (valid s) Race (touched a)) a s (record {
         room = room;
-        raceless = clear-each (valid s) Race (touched a) (all-valid s (touched a) (λ i. no-race (some-invalid-race τ s H a c says i)));
+        raceless = clear-each (valid s) Race (touched a) (all-valid s (touched a) (λ i. no-race (some-invalid-race τ s H a cs takes i)));
         pointing = st .pointing;
         unlive = st .unlive;
         holding = st .holding;
@@ -94,13 +101,12 @@ module _ (τ : Computation) (s : State) (H : Shows s τ) where
           (λ t. (t, room done l (rw t at q)))
           (λ t. let same : Refuse TooManyMallocs ≡ Refuse r = rw t at q in absurd (n (cc)))
 
-  pub refused-no-step : (a : Act) (c : Com) (r : Refusal) → Says a c → check a s ≡ Refuse r → (r ≡ TooManyMallocs → ⊥)
-      → (up : List Update) → Rule (heapOf τ) (freedIn τ) c up → Every (λ k. returned up ≡ defined (cell (k .0))) (gives (a .change)) → ⊥
-  refused-no-step a c r says e n up rule named =
-      let no-race : PointerRace (validIn τ) c → ⊥ = λ race. refused-not-raced (pointer-race-is-race τ s H a c says race) in
-      let passes : Refuse r ≡ Go = sym e ∙ allowed-passes a c up says rule named no-race (room-left a r n e) in
+  pub refused-no-step : (a : Act) (cs : List Com) (r : Refusal) → Takes a cs → check a s ≡ Refuse r → (r ≡ TooManyMallocs → ⊥) → (σ : Computation) → Steps thread (gives (a .change)) τ cs σ → ⊥
+  refused-no-step a cs r takes e n σ steps =
+      let no-race : RaceIn (validIn τ) cs → ⊥ = λ race. refused-not-raced (pointer-race-is-race τ s H a cs takes race) in
+      let passes : Refuse r ≡ Go = sym e ∙ allowed-passes a cs σ takes steps no-race (room-left a r n e) in
       let z : _≡_ {A = ℕ} 0 1 = cc in
       omega arith
     where
       refused-not-raced : (v : ℕ) × (check a s ≡ Race v) → ⊥
-      refused-not-raced v = let both : Refuse r ≡ Race (v .0) = sym e ∙ v .1 in let z : _≡_ {A = ℕ} 0 1 = cc in omega arith
+      refused-not-raced v = let differ : Refuse r ≡ Race (v .0) = sym e ∙ v .1 in let z : _≡_ {A = ℕ} 0 1 = cc in omega arith

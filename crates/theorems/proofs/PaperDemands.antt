@@ -22,8 +22,8 @@ use Rattle.rules.specs.Check.{check}
 use Rattle.rules.specs.Effect.{effect}
 use Rattle.rules.specs.Run.{End, Outcome, next, runTo, unread, whole}
 use Rattle.rules.specs.Log.{parse, runBytes}
-use Rattle.theorems.specs.Paper.{Com, Computation, Lemma2, NotValid, PExp, PointerRace, cell, defined, index, initial, nextOf, validIn}
-use Rattle.theorems.specs.Beside.{Computed, Says, Shows, isThere, passing, placeOf, pvalOf}
+use Rattle.theorems.specs.Paper.{Com, Computation, Lemma2, NotValid, PExp, cell, defined, index, initial, nextOf, validIn}
+use Rattle.theorems.specs.Beside.{Computed, RaceIn, Shows, Takes, isThere, passing, placeOf, pvalOf}
 use Rattle.theorems.proofs.Basics.{clash, split}
 use Rattle.theorems.proofs.Kept.{Inv}
 use Rattle.theorems.proofs.Replayed.{next-accepted}
@@ -31,7 +31,7 @@ use Rattle.theorems.proofs.Logs.{taken}
 use Rattle.theorems.proofs.Demands.{lemma2}
 use Rattle.theorems.proofs.PaperReading.{half, no-address, no-value, same-address}
 use Rattle.theorems.proofs.PaperRaces.{pointer-race-is-race, race-is-pointer-race, race-names-invalid}
-use Rattle.theorems.proofs.PaperCommands.{readable-says}
+use Rattle.theorems.proofs.PaperCommands.{readable-takes}
 use Rattle.theorems.proofs.PaperRun.{computed, decides}
 
 -- ---- Lemma 2 in the paper's words
@@ -99,7 +99,7 @@ module _ (log : List ℕ) (b : AreBytes log) where
   pub paper-lemma2 : Lemma2 (computation .computation)
   paper-lemma2 = lemma2-of (computation .computation) (runBytes logFields log fresh .state) (computation .shows) (lemma2 log b)
 
-  -- the field after those that pass: its number and its thread, its command, that the command raises a pointer race, and a variable
+  -- the field after those that pass: its number and its thread, its commands, that one of them raises a pointer race, and a variable
   -- that is not valid
   pub record Raising (number thread variable : ℕ) : Type 0 where
     pub field : Field
@@ -107,9 +107,9 @@ module _ (log : List ℕ) (b : AreBytes log) where
     pub parts : parse logFields log .fields ≡ passing (parse logFields log .fields) fresh ++ (field ∷ rest)
     pub done : runBytes logFields log fresh .state .fields ≡ number
     pub by : field .thread ≡ thread
-    pub command : Com
-    pub says : Says (actOf field) command
-    pub race : PointerRace (validIn (computation .computation)) command
+    pub commands : List Com
+    pub takes : Takes (actOf field) commands
+    pub race : RaceIn (validIn (computation .computation)) commands
     pub named : NotValid (validIn (computation .computation)) variable
 
   -- a log that is stopped by a race raises a pointer race there, by Definition 2
@@ -121,15 +121,15 @@ module _ (log : List ℕ) (b : AreBytes log) where
       let f : Field = stop .0 in
       let why = next-raced (check (actOf f) left) f left n t v (sym (decides end fields fresh f (stop .1) noRace (stop .2)) ∙ e) in
       let R : Readable f = stop-readable (passing fields fresh) f (stop .1) (subst (Every Readable) (stop .2) (taken logFields log b .readable)) in
-      let c = readable-says f R in
+      let c = readable-takes f R in
       record {
         field = f;
         rest = stop .1;
         parts = stop .2;
         done = why .1;
         by = why .2;
-        command = c .0;
-        says = c .1;
+        commands = c .0;
+        takes = c .1;
         race = race-is-pointer-race (computation .computation) left (computation .shows) (actOf f) (c .0) (c .1) v (why .0);
         named = race-names-invalid (computation .computation) left (computation .shows) (actOf f) (c .0) (c .1) v (why .0);
       }
@@ -138,9 +138,9 @@ module _ (log : List ℕ) (b : AreBytes log) where
       stop-readable l f rest a = every-cut Readable l (f ∷ rest) a .1 .0
 
   -- and where the field after those that pass raises a pointer race, the log is stopped by a race, of that field's thread
-  pub raises-raced : (f : Field) (rest : List Field) (c : Com) → parse logFields log .fields ≡ passing (parse logFields log .fields) fresh ++ (f ∷ rest) → Says (actOf f) c
-      → PointerRace (validIn (computation .computation)) c → (v : ℕ) × (runBytes logFields log fresh .verdict ≡ Raced (runBytes logFields log fresh .state .fields) (f .thread) v)
-  raises-raced f rest c parts says race =
+  pub raises-raced : (f : Field) (rest : List Field) (cs : List Com) → parse logFields log .fields ≡ passing (parse logFields log .fields) fresh ++ (f ∷ rest) → Takes (actOf f) cs
+      → RaceIn (validIn (computation .computation)) cs → (v : ℕ) × (runBytes logFields log fresh .verdict ≡ Raced (runBytes logFields log fresh .state .fields) (f .thread) v)
+  raises-raced f rest cs parts takes race =
       let left = runBytes logFields log fresh .state in
-      let v = pointer-race-is-race (computation .computation) left (computation .shows) (actOf f) c says race in
+      let v = pointer-race-is-race (computation .computation) left (computation .shows) (actOf f) cs takes race in
       (v .0, decides (parse logFields log .end) fields fresh f rest noRace parts ∙ rw (v .1) refl)

@@ -11,21 +11,42 @@ use Rattle.fields.specs.declared.Refusal.the-variants.{AssertionFails, LiveCell
 use Rattle.fields.specs.Every.{Every}
 use Rattle.fields.specs.Order.{Test, inOrder}
 use Rattle.fields.proofs.Passing.{every-join, in-order-append}
+use Rattle.rules.specs.declared.Guard.{Guard}
+use Rattle.rules.specs.declared.Change.{Change}
 use Rattle.rules.specs.declared.Act.{Act}
 use Rattle.rules.specs.declared.Answer.{Answer}
 use Rattle.rules.specs.declared.Answer.the-variants.{Go, Race, Refuse}
 use Rattle.rules.specs.State.{State}
-use Rattle.rules.specs.Acts.{gives, through, touched}
+use Rattle.rules.specs.Acts.{compared, frees, gives, through, touched}
 use Rattle.rules.specs.Check.{check, checkBy, each, points, roomFor, vacant, valid}
 use Rattle.rules.proofs.Passed.{guardTests, roomTests, setTests, vacancyTests}
-use Rattle.theorems.specs.Paper.{Com, Computation, NotValid, PExp, PointerRace, pointerVar, validIn}
-use Rattle.theorems.specs.Beside.{Says, Shows, says-apart, says-constant, says-copy, says-equal, says-free, says-load, says-malloc, says-read, says-same, says-store, says-sum, says-unequal, says-write}
+use Rattle.theorems.specs.Paper.{Assert, Com, Computation, Cond, ContainsInvalid, NotValid, PExp, PointerRace, pointerVar, validIn}
+use Rattle.theorems.specs.Beside.{Asserts, RaceIn, Says, Shows, Takes, assertion, both, change, says-apart, says-constant, says-copy, says-equal, says-free, says-load, says-malloc, says-read, says-same, says-store, says-sum, says-unequal, says-write}
 use Rattle.theorems.proofs.Basics.{split}
 
 -- some variable of a list is not valid
 abbrev pub SomeInvalid : State → List ℕ → Type 0
 SomeInvalid s [] = ⊥
 SomeInvalid s (p ∷ l) = (valid s p ≡ false) ⊎ SomeInvalid s l
+
+module _ (s : State) where
+  some-cut : (l m : List ℕ) → SomeInvalid s (l ++ m) → SomeInvalid s l ⊎ SomeInvalid s m
+  some-cut [] m i = inr i
+  some-cut (p ∷ l) m (inl t) = inl (inl t)
+  some-cut (p ∷ l) m (inr i) = later (some-cut l m i)
+    where
+      later : SomeInvalid s l ⊎ SomeInvalid s m → SomeInvalid s (p ∷ l) ⊎ SomeInvalid s m
+      later (inl j) = inl (inr j)
+      later (inr j) = inr j
+
+  some-left : (l m : List ℕ) → SomeInvalid s l → SomeInvalid s (l ++ m)
+  some-left [] m i = absurd i
+  some-left (p ∷ l) m (inl t) = inl t
+  some-left (p ∷ l) m (inr i) = inr (some-left l m i)
+
+  some-right : (l m : List ℕ) → SomeInvalid s m → SomeInvalid s (l ++ m)
+  some-right [] m i = i
+  some-right (p ∷ l) m i = inr (some-right l m i)
 
 -- ---- tests in order, of which some say races
 module _ (s : State) where
@@ -113,20 +134,35 @@ module _ (s : State) (legal : PExp → Bool) (marks : (p : ℕ) → legal (point
   two p q (inl t) = inl (marks p ∙ t)
   two p q (inr t) = inr (one q t)
 
-  to-definition : (a : Act) (c : Com) → Says a c → SomeInvalid s (touched a) → PointerRace legal c
-  to-definition a c (says-malloc {p}) i = i
-  to-definition a c (says-free {p}) i = one p i
-  to-definition a c (says-copy {p} {q}) i = i
-  to-definition a c (says-load {p} {q} n) i = one q i
-  to-definition a c (says-store {p} {q} n) i = one p i
-  to-definition a c (says-read {x} {p}) i = one p i
-  to-definition a c (says-write {p} {x}) i = one p i
-  to-definition a c (says-constant {x} {n}) i = i
-  to-definition a c (says-sum {x} {y} {z}) i = i
-  to-definition a c (says-same {p} {q}) i = two p q i
-  to-definition a c (says-apart {p} {q}) i = two p q i
-  to-definition a c (says-equal {x} {y}) i = i
-  to-definition a c (says-unequal {x} {y}) i = i
+  to-guard : (g : Guard) (k : Cond) → Asserts g k → SomeInvalid s (compared g) → ContainsInvalid legal k
+  to-guard g k (says-same {p} {q}) i = two p q i
+  to-guard g k (says-apart {p} {q}) i = two p q i
+  to-guard g k (says-equal {x} {y}) i = i
+  to-guard g k (says-unequal {x} {y}) i = i
+
+  to-change : (m : Change) (c : Com) → Says m c → SomeInvalid s (frees m ++ through m) → PointerRace legal c
+  to-change m c (says-malloc {p}) i = i
+  to-change m c (says-free {p}) i = one p i
+  to-change m c (says-copy {p} {q}) i = i
+  to-change m c (says-load {p} {q} n) i = one q i
+  to-change m c (says-store {p} {q} n) i = one p i
+  to-change m c (says-read {x} {p}) i = one p i
+  to-change m c (says-write {p} {x}) i = one p i
+  to-change m c (says-constant {x} {n}) i = i
+  to-change m c (says-sum {x} {y} {z}) i = i
+
+  -- an assertion and what is looked at after it
+  to-first : (g : Guard) (k : Cond) → Asserts g k → (l : List ℕ) (cs : List Com) → (SomeInvalid s l → RaceIn legal cs) → SomeInvalid s (compared g ++ l) → RaceIn legal (Assert k ∷ cs)
+  to-first g k w l cs later i = first-or (some-cut s (compared g) l i)
+    where
+      first-or : SomeInvalid s (compared g) ⊎ SomeInvalid s l → RaceIn legal (Assert k ∷ cs)
+      first-or (inl j) = inl (to-guard g k w j)
+      first-or (inr j) = inr (later j)
+
+  to-definition : (a : Act) (cs : List Com) → Takes a cs → SomeInvalid s (touched a) → RaceIn legal cs
+  to-definition a cs (change {m} {c} w) i = inl (to-change m c w i)
+  to-definition a cs (assertion {g} {k} w) i = to-first g k w [] [] (λ j. j) i
+  to-definition a cs (both {g} {k} {m} {c} w u n) i = to-first g k w (frees m ++ through m) (c ∷ []) (λ j. inl (to-change m c u j)) i
 
   back-one : (p : ℕ) → NotValid legal p → SomeInvalid s (p ∷ [])
   back-one p n = inl (sym (marks p) ∙ n)
@@ -135,38 +171,49 @@ module _ (s : State) (legal : PExp → Bool) (marks : (p : ℕ) → legal (point
   back-two p q (inl n) = inl (sym (marks p) ∙ n)
   back-two p q (inr n) = inr (back-one q n)
 
-  from-definition : (a : Act) (c : Com) → Says a c → PointerRace legal c → SomeInvalid s (touched a) × (gives (a .change) ≡ [])
-  from-definition a c (says-malloc {p}) r = absurd r
-  from-definition a c (says-free {p}) r = (back-one p r, refl)
-  from-definition a c (says-copy {p} {q}) r = absurd r
-  from-definition a c (says-load {p} {q} n) r = (back-one q r, refl)
-  from-definition a c (says-store {p} {q} n) r = (back-one p r, refl)
-  from-definition a c (says-read {x} {p}) r = (back-one p r, refl)
-  from-definition a c (says-write {p} {x}) r = (back-one p r, refl)
-  from-definition a c (says-constant {x} {n}) r = absurd r
-  from-definition a c (says-sum {x} {y} {z}) r = absurd r
-  from-definition a c (says-same {p} {q}) r = (back-two p q r, refl)
-  from-definition a c (says-apart {p} {q}) r = (back-two p q r, refl)
-  from-definition a c (says-equal {x} {y}) r = absurd r
-  from-definition a c (says-unequal {x} {y}) r = absurd r
+  from-guard : (g : Guard) (k : Cond) → Asserts g k → ContainsInvalid legal k → SomeInvalid s (compared g)
+  from-guard g k (says-same {p} {q}) r = back-two p q r
+  from-guard g k (says-apart {p} {q}) r = back-two p q r
+  from-guard g k (says-equal {x} {y}) r = absurd r
+  from-guard g k (says-unequal {x} {y}) r = absurd r
+
+  from-change : (m : Change) (c : Com) → Says m c → PointerRace legal c → SomeInvalid s (frees m ++ through m) × (gives m ≡ [])
+  from-change m c (says-malloc {p}) r = absurd r
+  from-change m c (says-free {p}) r = (back-one p r, refl)
+  from-change m c (says-copy {p} {q}) r = absurd r
+  from-change m c (says-load {p} {q} n) r = (back-one q r, refl)
+  from-change m c (says-store {p} {q} n) r = (back-one p r, refl)
+  from-change m c (says-read {x} {p}) r = (back-one p r, refl)
+  from-change m c (says-write {p} {x}) r = (back-one p r, refl)
+  from-change m c (says-constant {x} {n}) r = absurd r
+  from-change m c (says-sum {x} {y} {z}) r = absurd r
+
+  from-definition : (a : Act) (cs : List Com) → Takes a cs → RaceIn legal cs → SomeInvalid s (touched a) × (gives (a .change) ≡ [])
+  from-definition a cs (change {m} {c} w) (inl r) = from-change m c w r
+  from-definition a cs (change {m} {c} w) (inr r) = absurd r
+  from-definition a cs (assertion {g} {k} w) (inl r) = (some-left s (compared g) [] (from-guard g k w r), refl)
+  from-definition a cs (assertion {g} {k} w) (inr r) = absurd r
+  from-definition a cs (both {g} {k} {m} {c} w u n) (inl r) = (some-left s (compared g) (frees m ++ through m) (from-guard g k w r), n)
+  from-definition a cs (both {g} {k} {m} {c} w u n) (inr (inl r)) = (some-right s (compared g) (frees m ++ through m) (from-change m c u r .0), n)
+  from-definition a cs (both {g} {k} {m} {c} w u n) (inr (inr r)) = absurd r
 
 -- ---- where the state shows the computation, the rules' race is Definition 2's
-module _ (τ : Computation) (s : State) (H : Shows s τ) (a : Act) (c : Com) (says : Says a c) where
-  pub some-invalid-race : SomeInvalid s (touched a) → PointerRace (validIn τ) c
-  some-invalid-race i = to-definition s (validIn τ) (λ p. H .marks (pointerVar p)) a c says i
+module _ (τ : Computation) (s : State) (H : Shows s τ) (a : Act) (cs : List Com) (takes : Takes a cs) where
+  pub some-invalid-race : SomeInvalid s (touched a) → RaceIn (validIn τ) cs
+  some-invalid-race i = to-definition s (validIn τ) (λ p. H .marks (pointerVar p)) a cs takes i
 
-  pub race-is-pointer-race : (v : ℕ) → check a s ≡ Race v → PointerRace (validIn τ) c
+  pub race-is-pointer-race : (v : ℕ) → check a s ≡ Race v → RaceIn (validIn τ) cs
   race-is-pointer-race v e = some-invalid-race (race-touched a s v e)
 
   pub race-names-invalid : (v : ℕ) → check a s ≡ Race v → NotValid (validIn τ) v
   race-names-invalid v e = H .marks (pointerVar v) ∙ race-variable a s v e
 
-  pub pointer-race-is-race : PointerRace (validIn τ) c → (v : ℕ) × (check a s ≡ Race v)
-  pointer-race-is-race r = let q = from-definition s (validIn τ) (λ p. H .marks (pointerVar p)) a c says r in touched-race a s (q .1) (q .0)
+  pub pointer-race-is-race : RaceIn (validIn τ) cs → (v : ℕ) × (check a s ≡ Race v)
+  pointer-race-is-race r = let q = from-definition s (validIn τ) (λ p. H .marks (pointerVar p)) a cs takes r in touched-race a s (q .1) (q .0)
 
-  pub passed-no-race : check a s ≡ Go → PointerRace (validIn τ) c → ⊥
+  pub passed-no-race : check a s ≡ Go → RaceIn (validIn τ) cs → ⊥
   passed-no-race here r =
       let v = pointer-race-is-race r in
-      let both : Race (v .0) ≡ Go = sym (v .1) ∙ here in
+      let differ : Race (v .0) ≡ Go = sym (v .1) ∙ here in
       let z : _≡_ {A = ℕ} 0 1 = cc in
       omega arith

@@ -3,11 +3,13 @@
 use Prim.Native.Nat.{_<_, ℕ}
 use mathlib.Core.Path.{_∙_, _≡_, refl, sym}
 use mathlib.Core.Bool.{false, true}
+use mathlib.Core.Logic.{inl, inr}
 use mathlib.Core.List.{List, [], _++_, _∷_}
 use native.Mathlib.Omega.{arith}
 use borrow.Author.Tests.{eqb-false, not-true}
 use lib.Dec.{eqb}
 use Rattle.fields.specs.declared.Field.{Field}
+use Rattle.fields.specs.declared.RecordedCell.{RecordedCell}
 use Rattle.fields.specs.Every.{AreBytes, Every}
 use Rattle.fields.proofs.Passing.{every-cut}
 use Rattle.fields.proofs.RoundTrip.{Readable}
@@ -20,15 +22,15 @@ use Rattle.rules.specs.declared.Answer.{Answer}
 use Rattle.rules.specs.declared.Answer.the-variants.{Go, Race, Refuse}
 use Rattle.rules.specs.Words.{cellOf, isUnset, unset}
 use Rattle.rules.specs.State.{State, freed, fresh, live, numberAt, pointer, statusOf, store, word, write}
-use Rattle.rules.specs.Acts.{frees, place, pointerThrough, through}
+use Rattle.rules.specs.Acts.{frees, gives, place, pointerThrough, through}
 use Rattle.rules.specs.Commands.{actOf}
-use Rattle.rules.specs.Check.{check, points, valid}
+use Rattle.rules.specs.Check.{check, points, vacant, valid}
 use Rattle.rules.specs.Effect.{apply, countField, effect, free, give}
 use Rattle.rules.specs.Run.{End, Outcome, next, runTo}
 use Rattle.rules.specs.Log.{parse, runBytes}
 use Rattle.rules.proofs.Passed.{Clear, Passed, looked, passed, reached}
-use Rattle.theorems.specs.Paper.{Com, Computation, DExp, MemoryManaged, PExp, RaceFree, dataOf, dataVar, dvalAtFirst, index, initial, negated, nextOf, pointerVar, pvalAtFirst, sameData, samePointers, then}
-use Rattle.theorems.specs.Beside.{Computed, Says, Shows, dvalOf, passing, placeOf, pvalOf, says-apart, says-constant, says-copy, says-equal, says-free, says-load, says-malloc, says-read, says-same, says-store, says-sum, says-unequal, says-write, validOf, wrappingSum}
+use Rattle.theorems.specs.Paper.{Asrt, Assert, Com, Computation, Cond, DExp, MemoryManaged, PExp, PointerRace, RaceFree, dataOf, dataVar, dvalAtFirst, heapOf, index, initial, nextOf, passes, pointerVar, pvalAtFirst, then, validIn}
+use Rattle.theorems.specs.Beside.{Computed, RaceIn, Says, Shows, Steps, Takes, assertion, both, change, dvalOf, passing, placeOf, pvalOf, says-constant, says-copy, says-free, says-load, says-malloc, says-read, says-store, says-sum, says-write, validOf, wrappingSum}
 use Rattle.theorems.proofs.Basics.{clash, getD-same, split}
 use Rattle.theorems.proofs.Words.{cell-small, unset-unset, valid-below}
 use Rattle.theorems.proofs.States.{status-set, word-free, word-give, word-write}
@@ -37,8 +39,8 @@ use Rattle.theorems.proofs.Tables.{readable-named}
 use Rattle.theorems.proofs.Logs.{taken}
 use Rattle.theorems.proofs.PaperReading.{Traced, traced-free, traced-give, traced-write}
 use Rattle.theorems.proofs.PaperRaces.{passed-no-race}
-use Rattle.theorems.proofs.PaperSteps.{Stepped, same-data-pass, same-pointers-pass, step-assert, step-compute, step-copy, step-free, step-load, step-malloc, step-read, step-store, step-write}
-use Rattle.theorems.proofs.PaperCommands.{readable-says}
+use Rattle.theorems.proofs.PaperSteps.{Returning, guard-passes, shows-assert, step-compute, step-copy, step-free, step-load, step-malloc, step-read, step-store, step-write}
+use Rattle.theorems.proofs.PaperCommands.{readable-takes}
 
 -- ---- no selector of a never-used cell is written, and no word holds a never-used cell
 module _ (s : State) (I : Inv s) (T : Traced (word s) (statusOf s)) where
@@ -88,25 +90,21 @@ shows-count τ s H = record {
     same-marks (nextOf a i) = refl
 
 module _ (τ : Computation) (s : State) (thread : ℕ) (H : Shows s τ) (I : Inv s) (T : Traced (word s) (statusOf s)) where
-  step-says : (a : Act) (c : Com) → Says a c → Named (a .change) → Passed a s → Stepped τ thread c (apply (a .change) s)
-  step-says a c (says-malloc {p} {d} {c = r}) n g = step-malloc τ s thread H I T p d r (n .0) (n .1) (eqb-false (statusOf s (r .0)) live (not-true (eqb (statusOf s (r .0)) live) (g .unlive .0)))
-  step-says a c (says-free {p}) n g = step-free τ s thread H I T p (looked a s g .frees .0)
-  step-says a c (says-copy {p} {q}) n g = step-copy τ s thread H I T p q (n .0)
-  step-says a c (says-load {p} {q} i) n g = step-load τ s thread H I T p q i (n .0) (reached s q (looked a s g .goes) (g .pointing))
-  step-says a c (says-store {p} {q} i) n g = let l = looked a s g in step-store τ s thread H I T p i q (reached s p (l .goes) (g .pointing)) (found s (SelectorOf p (index i)) I (n .0) (l .goes) (g .pointing) .within)
-  step-says a c (says-read {x} {p}) n g = step-read τ s thread H I T x p (n .0) (reached s p (looked a s g .goes) (g .pointing))
-  step-says a c (says-write {p} {x}) n g = step-write τ s thread H I T p x (reached s p (looked a s g .goes) (g .pointing))
-  step-says a c (says-constant {x} {n = m}) n g = step-compute τ s thread H I T x m (λ vs. m) [] [] (n .0) tt refl
-  step-says a c (says-sum {x} {y} {z}) n g =
+  step-says : (m : Change) (c : Com) → Says m c → Named m → Clear (valid s) (frees m) → Clear (valid s) (through m) → Clear (points s) (through m) → Clear (vacant s) (gives m) → Returning τ thread (gives m) c (apply m s)
+  step-says m c (says-malloc {p} {d} {c = r}) n f v u w = step-malloc τ s thread H I T p d r (n .0) (n .1) (eqb-false (statusOf s (r .0)) live (not-true (eqb (statusOf s (r .0)) live) (w .0)))
+  step-says m c (says-free {p}) n f v u w = (step-free τ s thread H I T p (f .0), tt)
+  step-says m c (says-copy {p} {q}) n f v u w = (step-copy τ s thread H I T p q (n .0), tt)
+  step-says m c (says-load {p} {q} i) n f v u w = (step-load τ s thread H I T p q i (n .0) (reached s q v u), tt)
+  step-says m c (says-store {p} {q} i) n f v u w = (step-store τ s thread H I T p i q (reached s p v u) (found s (SelectorOf p (index i)) I (n .0) v u .within), tt)
+  step-says m c (says-read {x} {p}) n f v u w = (step-read τ s thread H I T x p (n .0) (reached s p v u), tt)
+  step-says m c (says-write {p} {x}) n f v u w = (step-write τ s thread H I T p x (reached s p v u), tt)
+  step-says m c (says-constant {x} {n = k}) n f v u w = (step-compute τ s thread H I T x k (λ vs. k) [] [] (n .0) tt refl, tt)
+  step-says m c (says-sum {x} {y} {z}) n f v u w =
       let vs : List ℕ = numberAt (s .variables) y ∷ numberAt (s .variables) z ∷ [] in
-      step-compute τ s thread H I T x (wrappingSum vs) wrappingSum (y ∷ z ∷ []) vs (n .0) (H .numbers (dataVar y), (H .numbers (dataVar z), tt)) refl
-  step-says a c (says-same {p} {q}) n g = step-assert τ s thread H I T (samePointers p q) (same-pointers-pass τ s H true p q ∙ g .holding)
-  step-says a c (says-apart {p} {q}) n g = step-assert τ s thread H I T (negated (samePointers p q)) (same-pointers-pass τ s H false p q ∙ g .holding)
-  step-says a c (says-equal {x} {y}) n g = step-assert τ s thread H I T (sameData x y) (same-data-pass τ s H true x y ∙ g .holding)
-  step-says a c (says-unequal {x} {y}) n g = step-assert τ s thread H I T (negated (sameData x y)) (same-data-pass τ s H false x y ∙ g .holding)
+      (step-compute τ s thread H I T x (wrappingSum vs) wrappingSum (y ∷ z ∷ []) vs (n .0) (H .numbers (dataVar y), (H .numbers (dataVar z), tt)) refl, tt)
 
--- ---- a run: the fields that pass are a computation without a pointer race, and the state that is left shows it
--- what holds of a state and a computation after each field
+-- ---- the commands of one field
+-- what holds of a state and a computation before and after
 record Standing (s : State) (τ : Computation) : Type 0 where
   inv : Inv s
   traced : Traced (word s) (statusOf s)
@@ -114,6 +112,49 @@ record Standing (s : State) (τ : Computation) : Type 0 where
   managed : MemoryManaged τ
   raceFree : RaceFree τ
 
+-- where some commands lead: to a computation without a pointer race, and the state s shows it
+record Onward (thread : ℕ) (named : List RecordedCell) (τ : Computation) (cs : List Com) (s : State) : Type 0 where
+  to : Computation
+  steps : Steps thread named τ cs to
+  managed : MemoryManaged to
+  raceFree : RaceFree to
+  shows : Shows s to
+
+module _ (s : State) (thread : ℕ) where
+  change-on : (τ : Computation) → Standing s τ → (a : Act) (c : Com) → Says (a .change) c → Named (a .change) → Passed a s → (PointerRace (validIn τ) c → ⊥) → Onward thread (gives (a .change)) τ (c ∷ []) (apply (a .change) s)
+  change-on τ S a c w n g no-race =
+      let l = looked a s g in
+      let st = step-says τ s thread (S .shows) (S .inv) (S .traced) (a .change) c w n (l .frees) (l .goes) (g .pointing) (g .unlive) in
+      record {
+        to = then τ (record { thread = thread; command = c; up = st .0 .up });
+        steps = (st .0 .up, st .0 .rule, st .1, refl);
+        managed = (S .managed, st .0 .rule);
+        raceFree = (S .raceFree, no-race);
+        shows = st .0 .shows;
+      }
+
+  assert-on : (τ : Computation) → Standing s τ → (k : Cond) → passes true (heapOf τ) k ≡ true → (PointerRace (validIn τ) (Assert k) → ⊥) → Standing s (then τ (record { thread = thread; command = Assert k; up = [] }))
+  assert-on τ S k e no-race = record {
+    inv = S .inv;
+    traced = S .traced;
+    shows = shows-assert τ s (S .shows) thread k [] (Asrt e);
+    managed = (S .managed, Asrt e);
+    raceFree = (S .raceFree, no-race);
+  }
+
+  takes-on : (τ : Computation) → Standing s τ → (a : Act) (cs : List Com) → Takes a cs → Named (a .change) → Passed a s → (RaceIn (validIn τ) cs → ⊥) → Onward thread (gives (a .change)) τ cs (apply (a .change) s)
+  takes-on τ S a cs (change {m} {c} w) n g no-race = change-on τ S a c w n g (λ r. no-race (inl r))
+  takes-on τ S a cs (assertion {g = q} {k} w) n g no-race =
+      let e : passes true (heapOf τ) k ≡ true = guard-passes τ s (S .shows) q k w ∙ g .holding in
+      let R = assert-on τ S k e (λ r. no-race (inl r)) in
+      record { to = then τ (record { thread = thread; command = Assert k; up = [] }); steps = ([], Asrt e, tt, refl); managed = R .managed; raceFree = R .raceFree; shows = R .shows }
+  takes-on τ S a cs (both {g = q} {k} {m} {c} w u none) n g no-race =
+      let e : passes true (heapOf τ) k ≡ true = guard-passes τ s (S .shows) q k w ∙ g .holding in
+      let ρ : Computation = then τ (record { thread = thread; command = Assert k; up = [] }) in
+      let o = change-on ρ (assert-on τ S k e (λ r. no-race (inl r))) a c u n g (λ r. no-race (inr (inl r))) in
+      record { to = o .to; steps = ([], Asrt e, rw none tt, o .steps); managed = o .managed; raceFree = o .raceFree; shows = o .shows }
+
+-- ---- a run: the fields that pass are a computation without a pointer race, and the state that is left shows it
 stopped : (s : State) (τ : Computation) → Standing s τ → Computed τ [] s
 stopped s τ S = record { computation = τ; takes = refl; managed = S .managed; raceFree = S .raceFree; shows = S .shows }
 
@@ -124,18 +165,17 @@ module _ (f : Field) (s : State) (τ : Computation) (R : Readable f) (S : Standi
   goes-on here =
       let act : Act = actOf f in
       let named = readable-named f R in
-      let c = readable-says f R in
+      let c = readable-takes f R in
       let g = passed act s here in
-      let st = step-says τ s (f .thread) (S .shows) (S .inv) (S .traced) act (c .0) (c .1) (named .1) g in
-      let σ : Computation = then τ (record { thread = f .thread; command = c .0; up = st .up }) in
-      let q = later σ (record {
+      let o = takes-on s (f .thread) τ S act (c .0) (c .1) (named .1) g (passed-no-race τ s (S .shows) act (c .0) (c .1) here) in
+      let q = later (o .to) (record {
         inv = keep act s (S .inv) (named .1) here;
         traced = traced-step s (S .inv) (S .traced) act (named .1) g;
-        shows = shows-count σ (apply (act .change) s) (st .shows);
-        managed = (S .managed, st .rule);
-        raceFree = (S .raceFree, passed-no-race τ s (S .shows) act (c .0) (c .1) here);
+        shows = shows-count (o .to) (apply (act .change) s) (o .shows);
+        managed = o .managed;
+        raceFree = o .raceFree;
       }) in
-      record { computation = q .computation; takes = (c .0, st .up, c .1, q .takes); managed = q .managed; raceFree = q .raceFree; shows = q .shows }
+      record { computation = q .computation; takes = (c .0, o .to, c .1, o .steps, q .takes); managed = q .managed; raceFree = q .raceFree; shows = q .shows }
 
   one-field : (x : Answer) → check (actOf f) s ≡ x → Computed τ (passing (f ∷ fs) s) (runTo end (f ∷ fs) s .state)
   one-field Go e = rw e (goes-on e)

@@ -11,6 +11,7 @@ use Rattle.fields.specs.declared.RecordedCell.{RecordedCell}
 use Rattle.rules.specs.declared.PExp.the-variants.{PointerVariable, SelectorOf}
 use Rattle.rules.specs.declared.DExp.the-variants.{DataOf, DataVariable}
 use Rattle.rules.specs.declared.Value.the-variants.{Held}
+use Rattle.rules.specs.declared.Guard.{Guard}
 use Rattle.rules.specs.declared.Change.the-variants.{Allocate, Move, Put, Release}
 use Rattle.rules.specs.declared.Place.the-variants.{SelectorWord}
 use Rattle.rules.specs.declared.DataPlace.{DataPlace}
@@ -18,12 +19,12 @@ use Rattle.rules.specs.declared.DataPlace.the-variants.{CellNumber, VariableNum
 use Rattle.rules.specs.Words.{cellOf, isUnset, isValid}
 use Rattle.rules.specs.State.{State, freed, neverUsed, numberAt, pointer, statusOf, store, word, write}
 use Rattle.rules.specs.Acts.{frees}
-use Rattle.rules.specs.Check.{asWanted, sameAsWanted}
+use Rattle.rules.specs.Check.{asWanted, holds, sameAsWanted}
 use Rattle.rules.specs.Effect.{apply, free, give}
 use Rattle.rules.specs.Matching.{Live}
 use Rattle.rules.proofs.Passed.{Set}
 use Rattle.theorems.specs.Paper.{Adr, Asgn-compute, Asgn-copy, Asgn-load, Asgn-read, Asgn-store, Asgn-write, Asrt, Assert, Com, Computation, Compute, Cond, Copy, DExp, Free, Free-rule, Heap, Load, Malloc, Malloc1, Malloc2, PExp, ReadData, Rule, Selector, Store, Update, Values, WriteData, cell, dataOf, dataTo, dataVar, defined, freedAfter, freedIn, heapOf, index, isSeg, nextOf, next₀, next₁, passes, pointerTo, pointerVar, received, sameAdr, sameDExp, sameData, samePExp, samePointers, seg, then, validAfter, validIn, validNext, wantedIs}
-use Rattle.theorems.specs.Beside.{Shows, adrOf, dvalOf, isAllocated, isThere, placeOf, pvalOf, validOf}
+use Rattle.theorems.specs.Beside.{Asserts, Returns, Shows, adrOf, dvalOf, isAllocated, isThere, placeOf, pvalOf, says-apart, says-equal, says-same, says-unequal, validOf}
 use Rattle.theorems.proofs.Basics.{eqb-self, eqb-turn, split}
 use Rattle.theorems.proofs.States.{Within}
 use Rattle.theorems.proofs.Kept.{Inv, live-below, live-cell}
@@ -34,6 +35,10 @@ pub record Stepped (τ : Computation) (thread : ℕ) (c : Com) (s : State) : Typ
   pub up : List Update
   pub rule : Rule (heapOf τ) (freedIn τ) c up
   pub shows : Shows s (then τ (record { thread = thread; command = c; up = up }))
+
+-- and the update returns the cell that is named
+abbrev pub Returning : Computation → ℕ → List RecordedCell → Com → State → Type 0
+Returning τ thread named c s = (st : Stepped τ thread c s) × Returns (st .up) named
 
 received-cond : (b : Bool) (x e : PExp) (legal : PExp → Bool) → received b x legal e ≡ cond (samePExp x e) b (legal e)
 received-cond true x e legal = split (samePExp x e) (λ t. rw (t, or-true (legal e)) refl) (λ t. rw (t, or-false (legal e)) refl)
@@ -54,11 +59,21 @@ compared-same wanted v w = split (isUnset v)
     (λ f. rw (e, f, wanted-same wanted (eqb (cellOf w) (cellOf v)), eqb-turn (cellOf w) (cellOf v)) refl))
 
 module _ (τ : Computation) (s : State) (H : Shows s τ) where
-  pub same-pointers-pass : (wanted : Bool) (p q : ℕ) → passes wanted (heapOf τ) (samePointers p q) ≡ sameAsWanted wanted (pointer s p) (pointer s q)
+  same-pointers-pass : (wanted : Bool) (p q : ℕ) → passes wanted (heapOf τ) (samePointers p q) ≡ sameAsWanted wanted (pointer s p) (pointer s q)
   same-pointers-pass wanted p q = rw (H .pointers (pointerVar p), H .pointers (pointerVar q)) (compared-same wanted (pointer s p) (pointer s q))
 
-  pub same-data-pass : (wanted : Bool) (x y : ℕ) → passes wanted (heapOf τ) (sameData x y) ≡ asWanted wanted (eqb (numberAt (s .variables) x) (numberAt (s .variables) y))
+  same-data-pass : (wanted : Bool) (x y : ℕ) → passes wanted (heapOf τ) (sameData x y) ≡ asWanted wanted (eqb (numberAt (s .variables) x) (numberAt (s .variables) y))
   same-data-pass wanted x y = rw (H .numbers (dataVar x), H .numbers (dataVar y)) (wanted-same wanted (eqb (numberAt (s .variables) x) (numberAt (s .variables) y)))
+
+  pub guard-passes : (g : Guard) (k : Cond) → Asserts g k → passes true (heapOf τ) k ≡ holds s g
+  guard-passes g k (says-same {p} {q}) = same-pointers-pass true p q
+  guard-passes g k (says-apart {p} {q}) = same-pointers-pass false p q
+  guard-passes g k (says-equal {x} {y}) = same-data-pass true x y
+  guard-passes g k (says-unequal {x} {y}) = same-data-pass false x y
+
+  -- an assertion changes nothing
+  pub shows-assert : (thread : ℕ) (k : Cond) (up : List Update) → Rule (heapOf τ) (freedIn τ) (Assert k) up → Shows s (then τ (record { thread = thread; command = Assert k; up = up }))
+  shows-assert thread k up (Asrt e) = record { pointers = H .pointers; numbers = H .numbers; marks = H .marks; frees = H .frees }
 
 module _ (τ : Computation) (s : State) (thread : ℕ) (H : Shows s τ) (I : Inv s) (T : Traced (word s) (statusOf s)) where
   -- ---- what the paper's heap has, where a pointer is valid and set
@@ -163,10 +178,6 @@ module _ (τ : Computation) (s : State) (thread : ℕ) (H : Shows s τ) (I : Inv
     shows = rw e (stored (Compute x op xs) (dataVar x) (VariableNumber x) n (λ q. dval-variable s x n q (I .sized) hx) (λ q. refl) (λ h a. refl));
   }
 
-  -- ---- an assertion
-  pub step-assert : (c : Cond) → passes true (heapOf τ) c ≡ true → Stepped τ thread (Assert c) s
-  step-assert c e = record { up = []; rule = Asrt e; shows = record { pointers = H .pointers; numbers = H .numbers; marks = H .marks; frees = H .frees } }
-
   -- ---- a free: (Free) has no constraint and no update
   pub step-free : (p : ℕ) → isValid (pointer s p) ≡ true → Stepped τ thread (Free p) (apply (Release p) s)
   step-free p ok = split (isUnset (pointer s p))
@@ -210,11 +221,11 @@ module _ (τ : Computation) (s : State) (thread : ℕ) (H : Shows s τ) (I : Inv
     abbrev c : ℕ
     c = r .0
 
-    step-new : statusOf s c ≡ neverUsed → Stepped τ thread (Malloc p) (give p c d s)
+    step-new : statusOf s c ≡ neverUsed → Returning τ thread (r ∷ []) (Malloc p) (give p c d s)
     step-new new =
         let z = I .sized in
         let ups : List Update = pointerTo (pointerVar p) (cell c) ∷ dataTo (dataOf c) d ∷ pointerTo (nextOf c next₀) seg ∷ pointerTo (nextOf c next₁) seg ∷ [] in
-        record {
+        let st : Stepped τ thread (Malloc p) (give p c d s) = record {
           up = ups;
           rule = Malloc1 (not-in-use s c T hc (heapOf τ) (H .pointers) (H .numbers) new);
           shows = record {
@@ -223,12 +234,13 @@ module _ (τ : Computation) (s : State) (thread : ℕ) (H : Shows s τ) (I : Inv
             marks = λ e. rw (H .marks e) (sym (mark-give s p c d z hp hc T e));
             frees = λ a. rw (eqb-self p, H .frees a) (sym (freed-give s p c d z hp hc a));
           };
-        }
+        } in
+        (st, (refl, tt))
 
-    step-used : statusOf s c ≡ freed → Stepped τ thread (Malloc p) (give p c d s)
+    step-used : statusOf s c ≡ freed → Returning τ thread (r ∷ []) (Malloc p) (give p c d s)
     step-used old =
         let z = I .sized in
-        record {
+        let st : Stepped τ thread (Malloc p) (give p c d s) = record {
           up = pointerTo (pointerVar p) (cell c) ∷ [];
           rule = Malloc2 (H .frees c ∙ rw old refl);
           shows = record {
@@ -237,9 +249,10 @@ module _ (τ : Computation) (s : State) (thread : ℕ) (H : Shows s τ) (I : Inv
             marks = λ e. rw (H .marks e) (sym (mark-give s p c d z hp hc T e));
             frees = λ a. rw (eqb-self p, H .frees a) (sym (freed-give s p c d z hp hc a));
           };
-        }
+        } in
+        (st, (refl, tt))
 
-    pub step-malloc : (Live s c → ⊥) → Stepped τ thread (Malloc p) (apply (Allocate p r d) s)
+    pub step-malloc : (Live s c → ⊥) → Returning τ thread (r ∷ []) (Malloc p) (apply (Allocate p r d) s)
     step-malloc nl = split (eqb (statusOf s c) neverUsed)
         (λ e. step-new (eqb-true (statusOf s c) neverUsed e))
         (λ e. step-used (omega (arith, eqb-false (statusOf s c) neverUsed e, I .sound .kinds c, nl)))
