@@ -21,14 +21,14 @@ use Rattle.fields.specs.Limits.{cells, headerBytes}
 use Rattle.fields.specs.Read.{readField}
 use Rattle.fields.specs.Rows.{lengthOf, rowOf}
 use Rattle.fields.specs.Write.{Writing, fieldBytes, writeField, writing}
-use Rattle.rules.proofs.Passed.{Clear, passed}
+use Rattle.rules.proofs.Checks.{Clear, each-stops, passedBy, race-stops}
 use Rattle.rules.proofs.Tallies.{counted}
 use Rattle.rules.specs.declared.Answer.{Answer}
 use Rattle.rules.specs.declared.Answer.the-variants.{Go, Race, Refuse}
 use Rattle.rules.specs.declared.Change.{Change}
 use Rattle.rules.specs.declared.Change.the-variants.{Stay, Allocate, Release, Move, Put}
-use Rattle.rules.specs.Acts.{gives}
-use Rattle.rules.specs.Check.{check, roomFor}
+use Rattle.rules.specs.Acts.{gives, touched}
+use Rattle.rules.specs.Check.{check, each, roomFor, valid}
 use Rattle.rules.specs.Commands.{actOf}
 use Rattle.rules.specs.Effect.{effect}
 use Rattle.rules.specs.Replay.{copyChange, copyField, nextCell, recast}
@@ -53,7 +53,9 @@ module _ (s : State) (f : Field) (right : Every Passes (valueChecks (rowOf (f .t
   right-by (Put x v) h = right
 
   copy-right : check (actOf f) s ≡ Go → Every Passes (valueChecks (rowOf (f .tag)) (copyField s (nextCell s) f))
-  copy-right e = right-by (actOf f .change) (passed (actOf f) s e .room)
+  copy-right e =
+      let a = actOf f in
+      right-by (a .change) (passedBy (each (valid s) Race (touched a)) a s (each-stops (valid s) Race (touched a) race-stops) e .room)
 
 -- ---- bytes written at a place of an output
 module _ (out bytes : List ℕ) (at : ℕ) (room : at + length bytes ≤ length out) where

@@ -1,5 +1,5 @@
 -- What other crates' proofs take from the rules.
 -- Assumes nothing.
-pub mod Passed
+pub mod Checks
 pub mod Tallies
 pub mod Printing

@@ -23,10 +23,11 @@ use Rattle.rules.specs.Check.{points, valid}
 use Rattle.rules.specs.Effect.{countField, free, give}
 use Rattle.rules.specs.Replay.{startingData}
 use Rattle.rules.specs.Matching.{Live, Owned}
-use Rattle.rules.proofs.Passed.{Clear, reached}
+use Rattle.rules.proofs.Checks.{Clear}
 use Rattle.theorems.proofs.Basics.{clash, eqb-self, getD-set, split}
 use Rattle.theorems.proofs.Words.{freedAt, freedAt-valid, valid-cell}
 use Rattle.theorems.proofs.States.{Sized, Within, clearedAt, count-set, eqPlace, status-set, word-free, word-give, word-write}
+use Rattle.theorems.proofs.Passed.{reached}
 use Rattle.theorems.proofs.Kept.{live-below, live-cell}
 use Rattle.theorems.proofs.Tied.{Pair, Tied, beside, eq-beside, eqb-m, partner, partner-set, partner-unset, partner-valid, pointer-cell, word-live}
 

@@ -31,10 +31,11 @@ use Rattle.rules.specs.Acts.{dataPlace, frees, place, pointerThrough, source, t
 use Rattle.rules.specs.Check.{check, points, valid}
 use Rattle.rules.specs.Effect.{apply, countField, effect, free, give}
 use Rattle.rules.specs.Matching.{Owned}
-use Rattle.rules.proofs.Passed.{Clear, Passed, Set, looked, passed, reached}
+use Rattle.rules.proofs.Checks.{Clear}
 use Rattle.theorems.proofs.Basics.{getD-same, split}
 use Rattle.theorems.proofs.Words.{cell-small}
 use Rattle.theorems.proofs.States.{Sized, Within, length-changeOwn, status-set, word-free, word-give, word-write}
+use Rattle.theorems.proofs.Passed.{Passed, Set, looked, passed, reached}
 use Rattle.theorems.proofs.Sound.{Good, Sound, good-unset, sound-free, sound-give, sound-write}
 
 -- ---- commands that stay within what is lent

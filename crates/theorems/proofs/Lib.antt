@@ -3,6 +3,7 @@
 pub mod Basics
 pub mod Words
 pub mod States
+pub mod Passed
 pub mod Sound
 pub mod Kept
 pub mod Ranges

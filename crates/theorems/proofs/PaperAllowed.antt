@@ -20,7 +20,7 @@ use Rattle.rules.specs.Words.{isUnset}
 use Rattle.rules.specs.State.{State, freed, live, numberAt, pointer, statusOf}
 use Rattle.rules.specs.Acts.{gives, through, touched}
 use Rattle.rules.specs.Check.{check, each, holds, points, roomFor, vacant, valid}
-use Rattle.rules.proofs.Passed.{Clear, clear-each, passBy}
+use Rattle.rules.proofs.Checks.{Clear, clear-each, passBy}
 use Rattle.theorems.specs.Paper.{Asgn-load, Asgn-read, Asgn-store, Asgn-write, Asrt, Assert, Com, Computation, Cond, Heap, InUse, Malloc1, Malloc2, Rule, Update, cell, dataOf, defined, freedIn, heapOf, passes, pointerVar, then, validIn}
 use Rattle.theorems.specs.Beside.{RaceIn, Returns, Says, Shows, Steps, Takes, assertion, both, change, says-constant, says-copy, says-free, says-load, says-malloc, says-read, says-store, says-sum, says-write}
 use Rattle.theorems.proofs.Basics.{split}

@@ -19,7 +19,7 @@ use Rattle.rules.specs.declared.Answer.the-variants.{Go, Race, Refuse}
 use Rattle.rules.specs.State.{State}
 use Rattle.rules.specs.Acts.{compared, frees, gives, through, touched}
 use Rattle.rules.specs.Check.{check, checkBy, each, points, roomFor, vacant, valid}
-use Rattle.rules.proofs.Passed.{guardTests, roomTests, setTests, vacancyTests}
+use Rattle.rules.proofs.Checks.{guardTests, roomTests, setTests, vacancyTests}
 use Rattle.theorems.specs.Paper.{Assert, Com, Computation, Cond, ContainsInvalid, NotValid, PExp, PointerRace, pointerVar, validIn}
 use Rattle.theorems.specs.Beside.{Asserts, RaceIn, Says, Shows, Takes, assertion, both, change, says-apart, says-constant, says-copy, says-equal, says-free, says-load, says-malloc, says-read, says-same, says-store, says-sum, says-unequal, says-write}
 use Rattle.theorems.proofs.Basics.{split}

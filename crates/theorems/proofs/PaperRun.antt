@@ -28,12 +28,13 @@ use Rattle.rules.specs.Check.{check, points, vacant, valid}
 use Rattle.rules.specs.Effect.{apply, countField, effect, free, give}
 use Rattle.rules.specs.Run.{End, Outcome, next, runTo}
 use Rattle.rules.specs.Log.{parse, runBytes}
-use Rattle.rules.proofs.Passed.{Clear, Passed, looked, passed, reached}
+use Rattle.rules.proofs.Checks.{Clear}
 use Rattle.theorems.specs.Paper.{Asrt, Assert, Com, Computation, Cond, DExp, MemoryManaged, PExp, PointerRace, RaceFree, dataOf, dataVar, dvalAtFirst, heapOf, index, initial, nextOf, passes, pointerVar, pvalAtFirst, then, validIn}
 use Rattle.theorems.specs.Beside.{Computed, RaceIn, Says, Shows, Steps, Takes, assertion, both, change, dvalOf, passing, placeOf, pvalOf, says-constant, says-copy, says-free, says-load, says-malloc, says-read, says-store, says-sum, says-write, validOf, wrappingSum}
 use Rattle.theorems.proofs.Basics.{clash, getD-same, split}
 use Rattle.theorems.proofs.Words.{cell-small, unset-unset, valid-below}
 use Rattle.theorems.proofs.States.{status-set, word-free, word-give, word-write}
+use Rattle.theorems.proofs.Passed.{Passed, looked, passed, reached}
 use Rattle.theorems.proofs.Kept.{Inv, Named, found, freed-live, inv-fresh, keep, live-below, status-fresh, word-fresh}
 use Rattle.theorems.proofs.Tables.{readable-named}
 use Rattle.theorems.proofs.Logs.{taken}

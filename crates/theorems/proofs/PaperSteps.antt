@@ -22,11 +22,11 @@ use Rattle.rules.specs.Acts.{frees}
 use Rattle.rules.specs.Check.{asWanted, holds, sameAsWanted}
 use Rattle.rules.specs.Effect.{apply, free, give}
 use Rattle.rules.specs.Matching.{Live}
-use Rattle.rules.proofs.Passed.{Set}
 use Rattle.theorems.specs.Paper.{Adr, Asgn-compute, Asgn-copy, Asgn-load, Asgn-read, Asgn-store, Asgn-write, Asrt, Assert, Com, Computation, Compute, Cond, Copy, DExp, Free, Free-rule, Heap, Load, Malloc, Malloc1, Malloc2, PExp, ReadData, Rule, Selector, Store, Update, Values, WriteData, cell, dataOf, dataTo, dataVar, defined, freedAfter, freedIn, heapOf, index, isSeg, nextOf, next₀, next₁, passes, pointerTo, pointerVar, received, sameAdr, sameDExp, sameData, samePExp, samePointers, seg, then, validAfter, validIn, validNext, wantedIs}
 use Rattle.theorems.specs.Beside.{Asserts, Returns, Shows, adrOf, dvalOf, isAllocated, isThere, placeOf, pvalOf, says-apart, says-equal, says-same, says-unequal, validOf}
 use Rattle.theorems.proofs.Basics.{eqb-self, eqb-turn, split}
 use Rattle.theorems.proofs.States.{Within}
+use Rattle.theorems.proofs.Passed.{Set}
 use Rattle.theorems.proofs.Kept.{Inv, live-below, live-cell}
 use Rattle.theorems.proofs.PaperReading.{Traced, adr-set, allocated-live, dval-cell, dval-free, dval-new, dval-used, dval-variable, freed-free, freed-give, mark-free, mark-give, mark-write, not-in-use, pval-free, pval-new, pval-used, pval-write}
 

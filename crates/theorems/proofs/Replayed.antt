@@ -29,9 +29,10 @@ use Rattle.rules.specs.Effect.{apply, countField, effect, free, give}
 use Rattle.rules.specs.Run.{Outcome, next, run}
 use Rattle.rules.specs.Replay.{Matching, copyAct, copyChange, copyField, nextCell, rematch, replay, start}
 use Rattle.rules.specs.Matching.{Alike, Along, Live, Match, Owned, twin}
-use Rattle.rules.proofs.Passed.{Clear, looked, passed}
+use Rattle.rules.proofs.Checks.{Clear}
 use Rattle.theorems.proofs.Basics.{split}
 use Rattle.theorems.proofs.States.{status-set}
+use Rattle.theorems.proofs.Passed.{looked, passed}
 use Rattle.theorems.proofs.Kept.{Inv, Named, NamedAct, freed-live, inv-fresh, live-below, status-fresh, word-fresh}
 use Rattle.theorems.proofs.Tied.{Pair, Tied, beside, flat, partner, partner-set, partner-unset, word-live}
 use Rattle.theorems.proofs.Step.{Apt, check-step, named-step, step}

@@ -17,8 +17,9 @@ use Rattle.rules.specs.Acts.{dataThrough, frees, gives, place, pointerThrough, 
 use Rattle.rules.specs.Check.{check, each, points, roomFor, vacant, valid}
 use Rattle.rules.specs.Effect.{apply, effect}
 use Rattle.rules.specs.Replay.{Matching, copyAct, copyChange, rematch}
-use Rattle.rules.proofs.Passed.{Clear, Passed, Set, clear-each, each-clear, looked, passBy, passed}
+use Rattle.rules.proofs.Checks.{Clear, clear-each, each-clear, passBy}
 use Rattle.theorems.proofs.Basics.{split}
+use Rattle.theorems.proofs.Passed.{Passed, Set, looked, passed}
 use Rattle.theorems.proofs.Kept.{Named, NamedAct, found, keep, live-cell}
 use Rattle.theorems.proofs.Tied.{Pair, Tied, beside, clear-points, clear-valid, flat, holds-sim, place-beside, pointer-cell, pointer-unset}
 use Rattle.theorems.proofs.Effects.{countField-sim, free-sim, give-sim, store-sim, value-sim, write-sim}

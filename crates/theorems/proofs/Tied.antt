@@ -20,10 +20,11 @@ use Rattle.rules.specs.Check.{holds, points, sameAsWanted, valid}
 use Rattle.rules.specs.Run.{liveCount}
 use Rattle.rules.specs.Replay.{Matching}
 use Rattle.rules.specs.Matching.{Live, Owned}
-use Rattle.rules.proofs.Passed.{Clear, Set, reached}
+use Rattle.rules.proofs.Checks.{Clear}
 use Rattle.theorems.proofs.Basics.{eqb-self, eqb-turn, every-map, split}
 use Rattle.theorems.proofs.Words.{valid-below, valid-cell}
 use Rattle.theorems.proofs.States.{eqPlace}
+use Rattle.theorems.proofs.Passed.{Set, reached}
 use Rattle.theorems.proofs.Kept.{Inv, PointerNamed, live-below}
 
 -- the replay's cell of each recorded cell, as numbers

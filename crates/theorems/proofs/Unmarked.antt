@@ -39,10 +39,11 @@ use Rattle.rules.specs.Effect.{apply, changeOwn, changeWord, countField, effect
 use Rattle.rules.specs.Run.{End, Outcome, endVerdict, next, runTo, unread, whole}
 use Rattle.rules.specs.Matching.{Live, Owned}
 use Rattle.rules.specs.Plain.{Distinct, applyPlain, checkPlain, freePlain, givenBy, runPlainTo, unfreed}
-use Rattle.rules.proofs.Passed.{Clear, each-same, looked, passed}
+use Rattle.rules.proofs.Checks.{Clear, each-same}
 use Rattle.theorems.proofs.Basics.{eqb-self, every-map, map-set, set-getD, split}
 use Rattle.theorems.proofs.Words.{cell-afterFree, cell-cell, cell-invalidated, cell-small, cell-unset, freedAt, unset-cell, valid-below, valid-invalidated}
 use Rattle.theorems.proofs.States.{Sized, Within, clearedAt, eqPlace, status-set, word-free, word-give, word-write}
+use Rattle.theorems.proofs.Passed.{looked, passed}
 use Rattle.theorems.proofs.Kept.{Inv, Named, NamedAct, found, freed-live, inv-fresh, keep, live-below, status-fresh, word-fresh}
 use Rattle.theorems.proofs.Effects.{still}
 use Rattle.theorems.proofs.Replayed.{All}

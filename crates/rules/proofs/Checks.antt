@@ -1,11 +1,10 @@
--- What it says that a command passed its checks, part by part: every test of them passed.
+-- The checks of a command, whatever is called a race: what it says that they pass, part by part.
 -- Assumes nothing.
 use Prim.Native.Nat.{ℕ}
 use mathlib.Core.Path.{_≡_, refl}
-use mathlib.Core.Bool.{Bool, false, true}
+use mathlib.Core.Bool.{Bool, true}
 use mathlib.Core.List.{List, [], _++_, _∷_}
 use native.Mathlib.Omega.{arith}
-use borrow.Author.Tests.{not-true}
 use Rattle.fields.specs.declared.Refusal.{Refusal}
 use Rattle.fields.specs.declared.Refusal.the-variants.{AssertionFails, LiveCell, TooManyMallocs, UnsetPointer}
 use Rattle.fields.specs.Every.{Every}
@@ -14,10 +13,9 @@ use Rattle.fields.proofs.Passing.{Passes, all-pass, every-cut, every-join, take
 use Rattle.rules.specs.declared.Act.{Act}
 use Rattle.rules.specs.declared.Answer.{Answer}
 use Rattle.rules.specs.declared.Answer.the-variants.{Go, Race, Refuse}
-use Rattle.rules.specs.Words.{isUnset, isValid}
-use Rattle.rules.specs.State.{State, pointer}
-use Rattle.rules.specs.Acts.{compared, frees, gives, through, touched}
-use Rattle.rules.specs.Check.{check, checkBy, each, holds, points, roomFor, vacant, valid}
+use Rattle.rules.specs.State.{State}
+use Rattle.rules.specs.Acts.{gives, through}
+use Rattle.rules.specs.Check.{checkBy, each, holds, points, roomFor, vacant}
 
 -- ---- tests that say something else than Go where they do not pass
 abbrev pub Stops : Test Answer → Type 0
@@ -29,7 +27,7 @@ went (t ∷ ts) n e =
     let p = taken (t .passes) (inOrder (λ answer. answer) Go ts) (t .says) Go (n .0) e in
     (p .0, went ts (n .1) (p .1))
 
-race-stops : (v : ℕ) → Race v ≡ Go → ⊥
+pub race-stops : (v : ℕ) → Race v ≡ Go → ⊥
 race-stops v e = let z : _≡_ {A = ℕ} 0 1 = cc in omega arith
 
 refusal-stops : (r : Refusal) → Refuse r ≡ Go → ⊥
@@ -39,7 +37,7 @@ refusal-stops r e = let z : _≡_ {A = ℕ} 0 1 = cc in omega arith
 abbrev pub Clear : {K : Type 0} → (K → Bool) → List K → Type 0
 Clear good l = Every (λ k. good k ≡ true) l
 
-each-stops : {K : Type 0} (good : K → Bool) (says : K → Answer) (l : List K) → ((k : K) → says k ≡ Go → ⊥) → Every Stops (each good says l)
+pub each-stops : {K : Type 0} (good : K → Bool) (says : K → Answer) (l : List K) → ((k : K) → says k ≡ Go → ⊥) → Every Stops (each good says l)
 each-stops good says [] n = tt
 each-stops good says (k ∷ l) n = (n k, each-stops good says l n)
 
@@ -55,7 +53,7 @@ pub each-same : {K A : Type 0} (good good′ : K → Bool) (says : K → A) (l :
 each-same good good′ says [] f = refl
 each-same good good′ says (k ∷ l) f = rw (f k, each-same good good′ says l f) refl
 
--- ---- the checks, whatever is called a race
+-- ---- all the checks
 pub record PassedBy (races : List (Test Answer)) (a : Act) (s : State) : Type 0 where
   pub room : Clear (roomFor s) (gives (a .change))
   pub raceless : Every Passes races
@@ -76,7 +74,7 @@ vacancyTests a s = each (vacant s) (λ c. Refuse LiveCell) (gives (a .change))
 abbrev pub guardTests : Act → State → List (Test Answer)
 guardTests a s = test (holds s (a .guard)) (Refuse AssertionFails) ∷ []
 
-passedBy : (races : List (Test Answer)) (a : Act) (s : State) → Every Stops races → checkBy races a s ≡ Go → PassedBy races a s
+pub passedBy : (races : List (Test Answer)) (a : Act) (s : State) → Every Stops races → checkBy races a s ≡ Go → PassedBy races a s
 unfolding checkBy
 passedBy races a s stops e =
     let all = roomTests a s ++ (races ++ (setTests a s ++ (vacancyTests a s ++ guardTests a s))) in
@@ -105,31 +103,3 @@ passBy races a s p =
     (every-join Passes races (setTests a s ++ (vacancyTests a s ++ guardTests a s)) (p .raceless)
     (every-join Passes (setTests a s) (vacancyTests a s ++ guardTests a s) (clear-each (points s) (λ p. Refuse UnsetPointer) (through (a .change)) (p .pointing))
     (every-join Passes (vacancyTests a s) (guardTests a s) (clear-each (vacant s) (λ c. Refuse LiveCell) (gives (a .change)) (p .unlive)) (p .holding, tt)))))
-
--- ---- the checks with marks
-abbrev pub Passed : Act → State → Type 0
-Passed a s = PassedBy (each (valid s) Race (touched a)) a s
-
-pub passed : (a : Act) (s : State) → check a s ≡ Go → Passed a s
-passed a s e = passedBy (each (valid s) Race (touched a)) a s (each-stops (valid s) Race (touched a) race-stops) e
-
--- what is asserted on, freed or gone through is valid
-pub record Looked (a : Act) (s : State) : Type 0 where
-  pub compares : Clear (valid s) (compared (a .guard))
-  pub frees : Clear (valid s) (frees (a .change))
-  pub goes : Clear (valid s) (through (a .change))
-
-pub looked : (a : Act) (s : State) → Passed a s → Looked a s
-looked a s p =
-    let Q : ℕ → Type 0 = λ k. valid s k ≡ true in
-    let t = every-cut Q (compared (a .guard)) (frees (a .change) ++ through (a .change)) (each-clear (valid s) Race (touched a) (p .raceless)) in
-    let u = every-cut Q (frees (a .change)) (through (a .change)) (t .1) in
-    record { compares = t .0; frees = u .0; goes = u .1 }
-
--- a variable that is gone through is valid and set
-pub record Set (s : State) (p : ℕ) : Type 0 where
-  pub valid : isValid (pointer s p) ≡ true
-  pub pointing : isUnset (pointer s p) ≡ false
-
-pub reached : (s : State) (p : ℕ) → Clear (valid s) (p ∷ []) → Clear (points s) (p ∷ []) → Set s p
-reached s p e f = record { valid = e .0; pointing = not-true (isUnset (pointer s p)) (f .0) }
