@@ -80,7 +80,8 @@ module _ (thread : ℕ) (τ : Computation) (s : State) (H : Shows s τ) where
       let q = change-steady ρ s (shows-assert τ s H thread k (st .0) (st .1)) m c (later .0) u (later .1) (later .2) in
       record { pointing = q .0; unlive = q .1; holding = sym (guard-passes τ s H g k w) ∙ asserted (st .1) }
 
-  pub allowed-passes : (a : Act) (cs : List Com) (σ : Computation) → Takes a cs → Steps thread (gives (a .change)) τ cs σ → (RaceIn (validIn τ) cs → ⊥) → Clear (roomFor s) (gives (a .change)) → check a s ≡ Go
+  pub allowed-passes : (a : Act) (cs : List Com) (σ : Computation) → Takes a cs → Steps thread (gives (a .change)) τ cs σ
+      → (RaceIn (validIn τ) cs → ⊥) → Clear (roomFor s) (gives (a .change)) → check a s ≡ Go
   allowed-passes a cs σ takes steps no-race room =
       let st = steady a cs σ takes steps in
       passBy (each (valid s) Race (touched a)) a s (record {
@@ -101,7 +102,8 @@ module _ (thread : ℕ) (τ : Computation) (s : State) (H : Shows s τ) where
           (λ t. (t, room done l (rw t at q)))
           (λ t. let same : Refuse TooManyMallocs ≡ Refuse r = rw t at q in absurd (n (cc)))
 
-  pub refused-no-step : (a : Act) (cs : List Com) (r : Refusal) → Takes a cs → check a s ≡ Refuse r → (r ≡ TooManyMallocs → ⊥) → (σ : Computation) → Steps thread (gives (a .change)) τ cs σ → ⊥
+  pub refused-no-step : (a : Act) (cs : List Com) (r : Refusal) → Takes a cs → check a s ≡ Refuse r → (r ≡ TooManyMallocs → ⊥)
+      → (σ : Computation) → Steps thread (gives (a .change)) τ cs σ → ⊥
   refused-no-step a cs r takes e n σ steps =
       let no-race : RaceIn (validIn τ) cs → ⊥ = λ race. refused-not-raced (pointer-race-is-race τ s H a cs takes race) in
       let passes : Refuse r ≡ Go = sym e ∙ allowed-passes a cs σ takes steps no-race (room-left a r n e) in

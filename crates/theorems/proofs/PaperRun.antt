@@ -91,7 +91,8 @@ shows-count τ s H = record {
     same-marks (nextOf a i) = refl
 
 module _ (τ : Computation) (s : State) (thread : ℕ) (H : Shows s τ) (I : Inv s) (T : Traced (word s) (statusOf s)) where
-  step-says : (m : Change) (c : Com) → Says m c → Named m → Clear (valid s) (frees m) → Clear (valid s) (through m) → Clear (points s) (through m) → Clear (vacant s) (gives m) → Returning τ thread (gives m) c (apply m s)
+  step-says : (m : Change) (c : Com) → Says m c → Named m
+      → Clear (valid s) (frees m) → Clear (valid s) (through m) → Clear (points s) (through m) → Clear (vacant s) (gives m) → Returning τ thread (gives m) c (apply m s)
   step-says m c (says-malloc {p} {d} {c = r}) n f v u w = step-malloc τ s thread H I T p d r (n .0) (n .1) (eqb-false (statusOf s (r .0)) live (not-true (eqb (statusOf s (r .0)) live) (w .0)))
   step-says m c (says-free {p}) n f v u w = (step-free τ s thread H I T p (f .0), tt)
   step-says m c (says-copy {p} {q}) n f v u w = (step-copy τ s thread H I T p q (n .0), tt)
@@ -122,7 +123,8 @@ record Onward (thread : ℕ) (named : List RecordedCell) (τ : Computation) (cs 
   shows : Shows s to
 
 module _ (s : State) (thread : ℕ) where
-  change-on : (τ : Computation) → Standing s τ → (a : Act) (c : Com) → Says (a .change) c → Named (a .change) → Passed a s → (PointerRace (validIn τ) c → ⊥) → Onward thread (gives (a .change)) τ (c ∷ []) (apply (a .change) s)
+  change-on : (τ : Computation) → Standing s τ → (a : Act) (c : Com) → Says (a .change) c → Named (a .change) → Passed a s → (PointerRace (validIn τ) c → ⊥)
+      → Onward thread (gives (a .change)) τ (c ∷ []) (apply (a .change) s)
   change-on τ S a c w n g no-race =
       let l = looked a s g in
       let st = step-says τ s thread (S .shows) (S .inv) (S .traced) (a .change) c w n (l .frees) (l .goes) (g .pointing) (g .unlive) in
@@ -134,7 +136,8 @@ module _ (s : State) (thread : ℕ) where
         shows = st .0 .shows;
       }
 
-  assert-on : (τ : Computation) → Standing s τ → (k : Cond) → passes true (heapOf τ) k ≡ true → (PointerRace (validIn τ) (Assert k) → ⊥) → Standing s (then τ (record { thread = thread; command = Assert k; up = [] }))
+  assert-on : (τ : Computation) → Standing s τ → (k : Cond) → passes true (heapOf τ) k ≡ true → (PointerRace (validIn τ) (Assert k) → ⊥)
+      → Standing s (then τ (record { thread = thread; command = Assert k; up = [] }))
   assert-on τ S k e no-race = record {
     inv = S .inv;
     traced = S .traced;
@@ -143,7 +146,8 @@ module _ (s : State) (thread : ℕ) where
     raceFree = (S .raceFree, no-race);
   }
 
-  takes-on : (τ : Computation) → Standing s τ → (a : Act) (cs : List Com) → Takes a cs → Named (a .change) → Passed a s → (RaceIn (validIn τ) cs → ⊥) → Onward thread (gives (a .change)) τ cs (apply (a .change) s)
+  takes-on : (τ : Computation) → Standing s τ → (a : Act) (cs : List Com) → Takes a cs → Named (a .change) → Passed a s → (RaceIn (validIn τ) cs → ⊥)
+      → Onward thread (gives (a .change)) τ cs (apply (a .change) s)
   takes-on τ S a cs (change {m} {c} w) n g no-race = change-on τ S a c w n g (λ r. no-race (inl r))
   takes-on τ S a cs (assertion {g = q} {k} w) n g no-race =
       let e : passes true (heapOf τ) k ≡ true = guard-passes τ s (S .shows) q k w ∙ g .holding in

@@ -107,8 +107,8 @@ pub data Takes : Act → List Com → Type 0 where
   assertion : {g : Guard} {k : Cond} → Asserts g k → Takes (asserts g) (Assert k ∷ [])
   both : {g : Guard} {k : Cond} {m : Change} {c : Com} → Asserts g k → Says m c → gives m ≡ [] → Takes (record { guard = g; change = m }) (Assert k ∷ c ∷ [])
 
--- One of the commands raises a pointer race. Document 01 looks at all of a field before it does any of it; the command after an
--- assertion races then where it races after it, since an assertion changes neither the heap nor what is valid.
+-- One of the commands raises a pointer race. All are looked at before the first is done, as document 01 does: that is the same for
+-- the command after an assertion, which changes neither the heap nor what is valid.
 abbrev pub RaceIn : (PExp → Bool) → List Com → Type 0
 RaceIn valid [] = ⊥
 RaceIn valid (c ∷ cs) = PointerRace valid c ⊎ RaceIn valid cs
