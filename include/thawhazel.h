@@ -50,7 +50,7 @@ enum {
     THAWHAZEL_BUFFER_TOO_SHORT = 2,  /* a heap buffer is shorter than its size: nothing else was changed */
     THAWHAZEL_TOO_MANY_FIELDS = 3,   /* bytes remain after 4,096 fields */
     THAWHAZEL_CUT_SHORT = 4,         /* 1 or 2 bytes remain (0 too where one field is read), or the value is cut short */
-    THAWHAZEL_UNKNOWN_TAG = 5,       /* tag not 1 to 13 */
+    THAWHAZEL_UNKNOWN_TAG = 5,       /* tag not 1 to 15 */
     THAWHAZEL_WRONG_LENGTH = 6,      /* length not the tag's */
     THAWHAZEL_UNKNOWN_THREAD = 7,    /* thread above 7 */
     THAWHAZEL_FOREIGN_VARIABLE = 8,  /* a variable above 79, or another thread's */

@@ -1,5 +1,5 @@
 #!/usr/bin/env python3
-"""field_edges.py: the records and the expected output of crates/field_edges, made from docs/01-scope.md alone.
+"""field_edges.py: the records and the expected output of crates/field_edges, made from docs/01-scope.md and document 02 alone.
 
     field_edges.py          compares the stored files with what is made, and says how many records agree
     field_edges.py --write  stores them
@@ -7,10 +7,11 @@
 import struct
 import sys
 
-# The table of document 01: the value bytes in order, after the thread. p: pointer variable, x: data variable,
-# s: selector, c: cell (2 bytes), n: number (4 bytes).
-ROWS = {1: "pcn", 2: "p", 3: "pp", 4: "pps", 5: "psp", 6: "xp", 7: "px", 8: "xn", 9: "pp", 10: "pp", 11: "xx", 12: "xx", 13: "xxx"}
-LENGTH = {1: 8, 2: 2, 3: 3, 4: 4, 5: 4, 6: 3, 7: 3, 8: 6, 9: 3, 10: 3, 11: 3, 12: 3, 13: 4}
+# The table of document 01, with order 1's rows 14 and 15: the value bytes in order, after the thread. p: pointer variable,
+# x: data variable, s: selector, c: cell (2 bytes), n: number (4 bytes).
+ROWS = {1: "pcn", 2: "p", 3: "pp", 4: "pps", 5: "psp", 6: "xp", 7: "px", 8: "xn", 9: "pp", 10: "pp", 11: "xx", 12: "xx", 13: "xxx",
+        14: "ppp", 15: "ppp"}
+LENGTH = {1: 8, 2: 2, 3: 3, 4: 4, 5: 4, 6: 3, 7: 3, 8: 6, 9: 3, 10: 3, 11: 3, 12: 3, 13: 4, 14: 4, 15: 4}
 ROOM = 24
 
 
@@ -166,5 +167,5 @@ for name, data in made.items():
     if "--write" in sys.argv:
         open(folder + name, "wb").write(data)
     elif open(folder + name, "rb").read() != data:
-        sys.exit(f"crates/field_edges/{name} is not what docs/01-scope.md gives")
+        sys.exit(f"crates/field_edges/{name} is not what the documents give")
 print(f"{len(records)} records at the edges of one field, with {len(set(lines))} different answers")

@@ -13,7 +13,7 @@ numberOf BufferTooShort = 2
 numberOf TooManyFields = 3
 -- 1 or 2 bytes remain (0 too where one field is read alone), or the value is cut short
 numberOf CutShort = 4
--- tag not 1 to 13
+-- tag not 1 to 15
 numberOf UnknownTag = 5
 -- length not the tag's
 numberOf WrongLength = 6

@@ -54,6 +54,10 @@ rows =
     ∷ row Data Data Absent none none
     -- 13: x := y + z
     ∷ row Data Data Data none none
+    -- 14: cas done: p = q, then p := r
+    ∷ row Pointer Pointer Pointer none none
+    -- 15: cas failed: p ≠ q
+    ∷ row Pointer Pointer Pointer none none
     ∷ []
 
 unfoldable pub rowOf : ℕ → Row

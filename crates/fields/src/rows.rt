@@ -24,11 +24,11 @@ const NUMBER: bool = true;
 const NONE: bool = false;
 
 impl Row {
-    // The tags are 1 to 13. Tag 0 is none, and has a place so that the table is indexed by tag.
-    pub const TAGS: usize = 14;
+    // The tags are 1 to 15. Tag 0 is none, and has a place so that the table is indexed by tag.
+    pub const TAGS: usize = 16;
 
     // The value length of each tag, the thread's byte included.
-    const LENGTHS: [u8; Row::TAGS] = [1, 8, 2, 3, 4, 4, 3, 3, 6, 3, 3, 3, 3, 4];
+    const LENGTHS: [u8; Row::TAGS] = [1, 8, 2, 3, 4, 4, 3, 3, 6, 3, 3, 3, 3, 4, 4, 4];
 }
 
 pub fn is_tag(tag: u8) -> bool
@@ -58,6 +58,8 @@ pub fn row_of(tag: u8) -> Row
         11 => Row(Data, Data, Absent, NONE, NONE), // assert x = y
         12 => Row(Data, Data, Absent, NONE, NONE), // assert x ≠ y
         13 => Row(Data, Data, Data, NONE, NONE), // x := y + z
+        14 => Row(Pointer, Pointer, Pointer, NONE, NONE), // cas done: p = q, then p := r
+        15 => Row(Pointer, Pointer, Pointer, NONE, NONE), // cas failed: p ≠ q
         _ => Row(Absent, Absent, Absent, NONE, NONE),
     }
 }

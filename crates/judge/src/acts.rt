@@ -61,6 +61,11 @@ pub fn act_of(field: Field) -> Act
         11 => asserts(Equal(true, first, second)),
         12 => asserts(Equal(false, first, second)),
         13 => does(Put(DataVariable(first), Sum(second, third))),
+        14 => Act {
+            guard: Same(true, first, second),
+            change: Move(PointerVariable(first), PointerVariable(third)),
+        },
+        15 => asserts(Same(false, first, second)),
         _ => does(Stay),
     }
 }

@@ -1,4 +1,4 @@
--- The starred log cases of document 01: one table, and one statement over it.
+-- The starred log cases of document 01, and those of the orders: one table, and one statement over it.
 -- Assumes nothing.
 use Prim.Native.Nat.{ℕ}
 use mathlib.Core.Path.{_≡_, refl}
@@ -97,6 +97,36 @@ logP =
     ∷ fieldWith 11 (0 ∷ 2 ∷ 3 ∷ [])
     ∷ []
 
+-- ---- order 1: cas fields, of thread, p, q and r
+abbrev pub casDone : ℕ → ℕ → ℕ → ℕ → Field
+casDone t p q r = fieldWith 14 (t ∷ p ∷ q ∷ r ∷ [])
+
+abbrev pub casFailed : ℕ → ℕ → ℕ → ℕ → Field
+casFailed t p q r = fieldWith 15 (t ∷ p ∷ q ∷ r ∷ [])
+
+abbrev pub copyOf : ℕ → ℕ → ℕ → Field
+copyOf t p q = fieldWith 3 (t ∷ p ∷ q ∷ [])
+
+-- source 004, Example 1, on a stack of two cells with its top in p0: thread 0 begins a pop (top p16, next p17); thread 1 pops the
+-- same cell (p24, p25), frees it, is given it again and pushes it; then thread 0 goes on with its cas
+abbrev pub treiberABA : List Field
+treiberABA =
+    M 1 5 0
+    ∷ M 0 6 0
+    ∷ fieldWith 5 (0 ∷ 0 ∷ 0 ∷ 1 ∷ [])
+    ∷ copyOf 0 16 0
+    ∷ fieldWith 4 (0 ∷ 17 ∷ 16 ∷ 0 ∷ [])
+    ∷ copyOf 1 24 0
+    ∷ fieldWith 4 (1 ∷ 25 ∷ 24 ∷ 0 ∷ [])
+    ∷ casDone 1 0 24 25
+    ∷ fieldWith 2 (1 ∷ 24 ∷ [])
+    ∷ fieldWith 1 (1 ∷ 24 ∷ 0 ∷ 0 ∷ 6 ∷ 0 ∷ [])
+    ∷ copyOf 1 25 0
+    ∷ fieldWith 5 (1 ∷ 24 ∷ 0 ∷ 25 ∷ [])
+    ∷ casDone 1 0 25 24
+    ∷ casDone 0 0 16 17
+    ∷ []
+
 abbrev pub cases : List Case
 cases =
     -- A: empty
@@ -127,6 +157,22 @@ cases =
     ∷ case (M 0 5 0 ∷ freeOf 0 ∷ M 0 5 0 ∷ fieldWith 4 (0 ∷ 16 ∷ 0 ∷ 0 ∷ []) ∷ freeOf 16 ∷ []) race (4 ∷ 0 ∷ 16 ∷ []) (wordIs (PointerWord 16) 3072 ∷ []) []
     -- P: x0 := 4294967295; x1 := 1; x2 := x0 + x1; assert x2 = x3
     ∷ case logP accepted (4 ∷ 0 ∷ 0 ∷ []) [] []
+    -- a cas that succeeds: M(0,5,7); p1 := p0; M(2,6,0); cas done p0 = p1, p0 := p2
+    ∷ case (M 0 5 7 ∷ copyOf 0 1 0 ∷ M 2 6 0 ∷ casDone 0 0 1 2 ∷ []) accepted (4 ∷ 2 ∷ 2 ∷ []) (wordIs (PointerWord 0) 6 ∷ []) (fieldIs 3 (casDone 0 0 1 2) ∷ wordIs (PointerWord 0) 1 ∷ [])
+    -- a cas whose assertion fails: M(0,5,7); M(1,6,0); cas done p0 = p1, p0 := p1
+    ∷ case (M 0 5 7 ∷ M 1 6 0 ∷ casDone 0 0 1 1 ∷ []) refused (14 ∷ 2 ∷ []) (wordIs (PointerWord 0) 5 ∷ []) []
+    -- a failed cas, which copies nothing: M(0,5,7); M(1,6,0); cas failed p0 ≠ p1, r = p1
+    ∷ case (M 0 5 7 ∷ M 1 6 0 ∷ casFailed 0 0 1 1 ∷ []) accepted (3 ∷ 2 ∷ 2 ∷ []) (wordIs (PointerWord 0) 5 ∷ []) []
+    -- a failed cas whose assertion fails: M(0,5,7); cas failed p0 ≠ p0
+    ∷ case (M 0 5 7 ∷ casFailed 0 0 0 0 ∷ []) refused (14 ∷ 1 ∷ []) [] []
+    -- a race at p, before q: M(0,5,7); p1 := p0; free p0; cas done p1 = p0
+    ∷ case (M 0 5 7 ∷ copyOf 0 1 0 ∷ freeOf 0 ∷ casDone 0 1 0 2 ∷ []) race (3 ∷ 0 ∷ 1 ∷ []) [] []
+    -- a race at q, p being valid: as before, but cas done p2 = p1
+    ∷ case (M 0 5 7 ∷ copyOf 0 1 0 ∷ freeOf 0 ∷ casDone 0 2 1 2 ∷ []) race (3 ∷ 0 ∷ 1 ∷ []) [] []
+    -- an invalid r is copied: M(0,5,7); p1 := p0; free p0; M(2,6,0); p3 := p2; cas done p2 = p3, p2 := p1
+    ∷ case (M 0 5 7 ∷ copyOf 0 1 0 ∷ freeOf 0 ∷ M 2 6 0 ∷ copyOf 0 3 2 ∷ casDone 0 2 3 1 ∷ []) accepted (6 ∷ 2 ∷ 1 ∷ []) (wordIs (PointerWord 2) 2053 ∷ []) (wordIs (PointerWord 2) 2048 ∷ [])
+    -- a Treiber stack's ABA
+    ∷ case treiberABA race (13 ∷ 0 ∷ 16 ∷ []) [] []
     ∷ []
 
 pub cases-hold : T (right cases)

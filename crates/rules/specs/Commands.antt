@@ -20,7 +20,7 @@ does c = record { guard = Always; change = c }
 abbrev pub asserts : Guard → Act
 asserts g = record { guard = g; change = Stay }
 
--- tag 0, and any above 13
+-- tag 0, and any that has no line below
 abbrev pub noCommand : Field → Act
 noCommand f = does Stay
 
@@ -53,6 +53,10 @@ commands =
     ∷ (λ f. asserts (Equal false (f .first) (f .second)))
     -- 13: x := y + z
     ∷ (λ f. does (Put (DataVariable (f .first)) (Sum (f .second) (f .third))))
+    -- 14: cas done: p = q, then p := r
+    ∷ (λ f. record { guard = Same true (f .first) (f .second); change = Move (PointerVariable (f .first)) (PointerVariable (f .third)) })
+    -- 15: cas failed: p ≠ q
+    ∷ (λ f. asserts (Same false (f .first) (f .second)))
     ∷ []
 
 unfoldable pub commandOf : ℕ → Field → Act

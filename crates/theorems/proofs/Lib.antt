@@ -23,3 +23,4 @@ pub mod PaperCommands
 pub mod PaperRun
 pub mod PaperAllowed
 pub mod PaperDemands
+pub mod Cas

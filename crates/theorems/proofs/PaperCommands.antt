@@ -15,7 +15,7 @@ use Rattle.fields.proofs.Tags.{tag-below}
 use Rattle.rules.specs.declared.Act.{Act}
 use Rattle.rules.specs.Commands.{actOf, commandOf, commands, noCommand}
 use Rattle.theorems.specs.Paper.{Assert, Com, Compute, Copy, Free, Load, Malloc, ReadData, Selector, Store, WriteData, index, negated, next₀, next₁, sameData, samePointers}
-use Rattle.theorems.specs.Beside.{Takes, assertion, change, says-apart, says-constant, says-copy, says-equal, says-free, says-load, says-malloc, says-read, says-same, says-store, says-sum, says-unequal, says-write, wrappingSum}
+use Rattle.theorems.specs.Beside.{Takes, assertion, both, change, says-apart, says-constant, says-copy, says-equal, says-free, says-load, says-malloc, says-read, says-same, says-store, says-sum, says-unequal, says-write, wrappingSum}
 use Rattle.theorems.proofs.Basics.{clash}
 use Rattle.theorems.proofs.Tables.{Facts, RowByRow, _▹_, facts}
 
@@ -56,6 +56,10 @@ sayable =
     ▹ (λ f h. (Assert (negated (sameData (f .first) (f .second))) ∷ [], assertion says-unequal))
     -- 13: x := y + z
     ▹ (λ f h. (Compute (f .first) wrappingSum (f .second ∷ f .third ∷ []) ∷ [], change says-sum))
+    -- 14: cas done: p = q, then p := r
+    ▹ (λ f h. (Assert (samePointers (f .first) (f .second)) ∷ Copy (f .first) (f .third) ∷ [], both says-same says-copy refl))
+    -- 15: cas failed: p ≠ q
+    ▹ (λ f h. (Assert (negated (samePointers (f .first) (f .second))) ∷ [], assertion says-apart))
     ▹ tt
 
 at-known : (P : Row → (Field → Act) → Type 0) (rs : List Row) (cs : List (Field → Act)) (i : ℕ) → i < length rs → RowByRow P rs cs → P (getD rs i noRow) (getD cs i noCommand)

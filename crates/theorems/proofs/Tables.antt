@@ -175,6 +175,10 @@ fine =
     ▹ giving-none (λ f h. ((h .0, h .1), tt)) (λ f q. tt) (λ f. refl)
     -- 13: x := y + z
     ▹ giving-none (λ f h. (tt, (h .0, (h .1, h .2)))) (λ f q. tt) (λ f. refl)
+    -- 14: cas done: p = q, then p := r
+    ▹ giving-none (λ f h. ((h .0, h .1), (h .0, h .2))) (λ f q. tt) (λ f. refl)
+    -- 15: cas failed: p ≠ q
+    ▹ giving-none (λ f h. ((h .0, h .1), tt)) (λ f q. tt) (λ f. refl)
     ▹ tt
 
 fine-at : (tag : ℕ) → Fine (rowOf tag) (commandOf tag)

@@ -59,7 +59,15 @@ returns-13 c = rw (c .match .keys13)
 
 returns-14 : tie.Need-returns-14
 unfolding rowOf
-returns-14 c = sym (no-line rows noRow refl (c .before .args .tag) (c .match .rest))
+returns-14 c = rw (c .match .keys14)
+
+returns-15 : tie.Need-returns-15
+unfolding rowOf
+returns-15 c = rw (c .match .keys15)
+
+returns-16 : tie.Need-returns-16
+unfolding rowOf
+returns-16 c = sym (no-line rows noRow refl (c .before .args .tag) (c .match .rest))
 
 pub row-of-spec : {M : Type 1} → statement M
 row-of-spec =
@@ -78,4 +86,6 @@ row-of-spec =
     returns-11
     returns-12
     returns-13
-    returns-14)
+    returns-14
+    returns-15
+    returns-16)

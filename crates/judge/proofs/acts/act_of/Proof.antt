@@ -45,6 +45,9 @@ asserts-requires-4 c κs = search needs
 does-requires-9 : tie.Need-does-requires-9
 does-requires-9 c κs = search needs
 
+asserts-requires-5 : tie.Need-asserts-requires-5
+asserts-requires-5 c κs = search needs
+
 does-requires-10 : tie.Need-does-requires-10
 does-requires-10 c κs = search needs
 
@@ -102,7 +105,15 @@ returns-13 c = rw (c .before .match .keys13) (c .does9 .ensures)
 
 returns-14 : tie.Need-returns-14
 unfolding commandOf
-returns-14 c = rw (no-line commands noCommand refl (c .before .before .before .args .field .tag) (c .before .match .rest)) (c .does10 .ensures)
+returns-14 c = rw (c .match .keys14)
+
+returns-15 : tie.Need-returns-15
+unfolding commandOf
+returns-15 c = rw (c .before .match .keys15) (c .asserts5 .ensures)
+
+returns-16 : tie.Need-returns-16
+unfolding commandOf
+returns-16 c = rw (no-line commands noCommand refl (c .before .before .before .args .field .tag) (c .before .match .rest)) (c .does10 .ensures)
 
 pub act-of-spec : {M : Type 1} → statement M
 act-of-spec =
@@ -121,6 +132,7 @@ act-of-spec =
     asserts-requires-3
     asserts-requires-4
     does-requires-9
+    asserts-requires-5
     does-requires-10
     returns
     returns-2
@@ -135,4 +147,6 @@ act-of-spec =
     returns-11
     returns-12
     returns-13
-    returns-14)
+    returns-14
+    returns-15
+    returns-16)
