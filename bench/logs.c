@@ -7,7 +7,7 @@ static uint32_t below(uint32_t n) {
     return (uint32_t)(state >> 33) % n;
 }
 
-static const uint8_t value_lengths[14] = {0, 8, 2, 3, 4, 4, 3, 3, 6, 3, 3, 3, 3, 4};
+static const uint8_t value_lengths[16] = {0, 8, 2, 3, 4, 4, 3, 3, 6, 3, 3, 3, 3, 4, 4, 4};
 
 static void start(Mix *mix, const char *name, int count, uint32_t seed) {
     mix->name = name;
@@ -81,17 +81,27 @@ void make_deep_reuse(Mix *mix) {
         }
 }
 
-/* Any field of few names, so that frees, reuse and races come up often. */
+/* One of few names, so that words meet often. */
+static uint8_t any_name(uint8_t thread) { return (uint8_t)(below(2) + (below(8) ? 0 : 16 + 8 * thread)); }
+
+/* Any field but a compare-and-swap, of few names, so that frees, reuse and races come up often. */
 static void add_any(Mix *mix, int log) {
     static const uint8_t tags[16] = {1, 1, 1, 2, 3, 3, 3, 4, 5, 6, 7, 8, 9, 10, 11, 13};
     uint8_t tag = below(32) ? tags[below(16)] : 12, thread = (uint8_t)below(2);
     uint8_t names[3];
-    for (int i = 0; i < 3; i++) names[i] = (uint8_t)(below(2) + (below(8) ? 0 : 16 + 8 * thread));
+    for (int i = 0; i < 3; i++) names[i] = any_name(thread);
     if (tag == 4) names[2] &= 1;
     if (tag == 5) names[1] &= 1;
     if (tag == 1) ADD(mix, log, 1, thread, names[0], (uint8_t)below(16), 0, (uint8_t)below(3));
     else if (tag == 8) ADD(mix, log, 8, thread, names[0], (uint8_t)below(3));
     else ADD(mix, log, tag, thread, names[0], names[1], names[2]);
+}
+
+/* A compare-and-swap, done or failed. The timed mixes have none, so that their times can be compared with former ones. */
+static void add_swap(Mix *mix, int log) {
+    uint8_t tag = (uint8_t)(14 + below(2)), thread = (uint8_t)below(2);
+    uint8_t p = any_name(thread), q = any_name(thread), r = any_name(thread);
+    ADD(mix, log, tag, thread, p, q, r);
 }
 
 void make_short_logs(Mix *mix) {
@@ -105,7 +115,7 @@ void make_random(Mix *mix, uint32_t seed) {
     for (int log = 0; log < mix->count; log++) {
         ADD(mix, log, 1, 0, 0, 0, 0, 1);
         ADD(mix, log, 1, 0, 1, 1, 0, 2);
-        for (uint32_t i = below(30); i > 0; i--) add_any(mix, log);
+        for (uint32_t i = below(30); i > 0; i--) (below(6) ? add_any : add_swap)(mix, log);
         if (below(4) == 0) mix->bytes[log][below((uint32_t)mix->lengths[log])] = (uint8_t)below(256);
         if (below(8) == 0) mix->lengths[log] -= below(4);
     }

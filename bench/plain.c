@@ -1,14 +1,14 @@
-/* A plain C judge, written from docs/01-scope.md as one would without proofs: a switch over the tags that works on the caller's
- * buffers in place. Numbers in comments are the refusals' numbers. */
+/* A plain C judge, written from docs/01-scope.md and document 02 as one would without proofs: a switch over the tags that works
+ * on the caller's buffers in place. Numbers in comments are the refusals' numbers. */
 #include "plain.h"
 
 enum { UNSET = 1024, INVALID = 2048 };
 enum { CELLS = 1024, SELECTORS = 2 * CELLS, VARIABLES = 80, LOG_BYTES = 45056, LOG_FIELDS = 4096, LOG_MALLOCS = 1024 };
-enum { HEADER = 3, THREADS = 8, SHARED = 16, OWNED = 8, TAGS = 14 };
+enum { HEADER = 3, THREADS = 8, SHARED = 16, OWNED = 8, TAGS = 16 };
 enum { NEVER_USED, LIVE, FREED };
 enum { ACCEPTED, RACE, REFUSED, NO_ROOM, GO_ON };
 
-static const uint8_t value_lengths[TAGS] = {0, 8, 2, 3, 4, 4, 3, 3, 6, 3, 3, 3, 3, 4};
+static const uint8_t value_lengths[TAGS] = {0, 8, 2, 3, 4, 4, 3, 3, 6, 3, 3, 3, 3, 4, 4, 4};
 
 typedef struct {
     uint16_t *pointers, *selectors;
@@ -69,7 +69,7 @@ static uint32_t check_value(uint8_t tag, const uint8_t *v) {
     case 5:
         if (!named(thread, v[3])) return 8;
         return v[2] > 1 ? 9 : 0;
-    case 13:
+    case 13: case 14: case 15:
         return named(thread, v[2]) && named(thread, v[3]) ? 0 : 8;
     default:
         return named(thread, v[2]) ? 0 : 8;
@@ -131,6 +131,13 @@ static uint32_t compare_pointers(Run *run, const uint8_t *v, int wanted) {
     return p != UNSET && q != UNSET && (p == q) != wanted ? refuse(run, 14) : GO_ON;
 }
 
+/* A compare-and-swap that was done: assert p = q, then p := r. */
+static uint32_t do_swap(Run *run, const uint8_t *v) {
+    uint32_t kind = compare_pointers(run, v, 1);
+    if (kind == GO_ON) run->pointers[v[1]] = run->pointers[v[3]];
+    return kind;
+}
+
 static uint32_t compare_numbers(Run *run, const uint8_t *v, int wanted) {
     return (run->variables[v[1]] == run->variables[v[2]]) != wanted ? refuse(run, 14) : GO_ON;
 }
@@ -158,10 +165,11 @@ static uint32_t step(Run *run, uint8_t tag, const uint8_t *v) {
     case 4: case 5: case 6: case 7: return do_through(run, tag, v);
     case 8: run->variables[v[1]] = four_bytes(v + 2); return GO_ON;
     case 9: return compare_pointers(run, v, 1);
-    case 10: return compare_pointers(run, v, 0);
+    case 10: case 15: return compare_pointers(run, v, 0);
     case 11: return compare_numbers(run, v, 1);
     case 12: return compare_numbers(run, v, 0);
-    default: run->variables[v[1]] = run->variables[v[2]] + run->variables[v[3]]; return GO_ON;
+    case 13: run->variables[v[1]] = run->variables[v[2]] + run->variables[v[3]]; return GO_ON;
+    default: return do_swap(run, v);
     }
 }
 

@@ -1,10 +1,11 @@
 #!/usr/bin/env python3
-"""cases.py: the log cases of docs/01-scope.md, as files of examples/ with their verdicts.
+"""cases.py: the log cases of docs/01-scope.md and of document 02's orders, as files of examples/ with their verdicts.
 
     cases.py          compares examples/ with what is made, then judges and replays every example by ./thawhazel
     cases.py --write  stores the examples
 
-The fields and verdicts below are typed from document 01's table "Log cases to settle"; nothing comes from the program.
+The fields and verdicts below are typed from document 01's table "Log cases to settle" and from the orders' words; nothing
+comes from the program.
 """
 import os
 import struct
@@ -34,9 +35,51 @@ def constant(x, n):
     return field(8, 0, x, ("number", n))
 
 
-C_BEGINS = malloc(0, 5, 7) + field(3, 1, 24, 0) + free(0)
+def copy(p, q, thread=0):
+    return field(3, thread, p, q)
+
+
+def cas_done(p, q, r, thread=0):
+    return field(14, thread, p, q, r)
+
+
+def cas_failed(p, q, r, thread=0):
+    return field(15, thread, p, q, r)
+
+
+C_BEGINS = malloc(0, 5, 7) + copy(24, 0, 1) + free(0)
 C_ENDS = field(6, 1, 24, 24)
 E = malloc(0, 5, 0) + malloc(1, 6, 0) + field(5, 0, 0, 0, 1) + free(0) + malloc(0, 5, 0) + field(4, 0, 16, 0, 0)
+
+# order 1: p1 keeps the cell of p0, which is freed; then given out again
+STALE = malloc(0, 5, 0) + copy(1, 0) + free(0)
+REUSED = STALE + malloc(0, 5, 0)
+
+
+class Treiber:
+    """One thread at the stack of source 004, Example 1, whose top is p0; ptop and pnode are the thread's own."""
+
+    def __init__(self, thread):
+        self.thread, self.ptop, self.pnode, self.value = thread, 16 + 8 * thread, 17 + 8 * thread, 16 + 8 * thread
+
+    def cas(self):
+        return cas_done(0, self.ptop, self.pnode, self.thread)
+
+    def push(self, cell):
+        t, ptop, pnode = self.thread, self.ptop, self.pnode
+        node = malloc(pnode, cell, 0, t) + field(7, t, pnode, self.value)
+        return node + copy(ptop, 0, t) + field(5, t, pnode, 0, ptop) + self.cas()
+
+    def begin_pop(self):
+        return copy(self.ptop, 0, self.thread) + field(4, self.thread, self.pnode, self.ptop, 0)
+
+    def end_pop(self):
+        return self.cas() + field(6, self.thread, self.value, self.ptop) + free(self.ptop, self.thread)
+
+
+SLOW, FAST = Treiber(0), Treiber(1)
+POP_BEGUN = FAST.push(6) + FAST.push(5) + SLOW.begin_pop()
+MEANWHILE = FAST.begin_pop() + FAST.end_pop() + FAST.push(7) + FAST.push(5)
 
 CASES = [
     ("A", b"", "accepted 0 0 0"),
@@ -63,6 +106,19 @@ CASES = [
     ("S-one-byte-more", free(0) * 4096 + b"\0", "refused 3 4096"),
     ("T", bytes(45056), "refused 5 0"),
     ("T-one-byte-more", bytes(45057), "refused 1 0"),
+    ("cas-done", malloc(0, 5, 0) + malloc(1, 6, 0) + copy(2, 0) + cas_done(0, 2, 1), "accepted 4 2 2"),
+    ("cas-done-unequal", malloc(0, 5, 0) + malloc(1, 6, 0) + cas_done(0, 1, 1), "refused 14 2"),
+    ("cas-done-race-p", STALE + cas_done(1, 0, 2), "race 3 0 1"),
+    ("cas-done-race-q", REUSED + cas_done(0, 1, 2), "race 4 0 1"),
+    ("cas-done-copies-invalid", REUSED + cas_done(0, 0, 1), "accepted 5 2 1"),
+    ("cas-failed", malloc(0, 5, 0) + malloc(1, 6, 0) + cas_failed(0, 1, 1), "accepted 3 2 2"),
+    ("cas-failed-equal", malloc(0, 5, 0) + cas_failed(0, 0, 1), "refused 14 1"),
+    ("cas-failed-race-p", STALE + cas_failed(1, 0, 2), "race 3 0 1"),
+    ("cas-failed-race-q", REUSED + cas_failed(0, 1, 2), "race 4 0 1"),
+    ("cas-failed-foreign-r", cas_failed(0, 0, 24), "refused 8 0"),
+    ("cas-treiber", POP_BEGUN + SLOW.end_pop(), "accepted 15 2 1"),
+    ("cas-treiber-aba", POP_BEGUN + MEANWHILE + SLOW.end_pop(), "race 27 0 16"),
+    ("tag16", field(16, 0, 0, 0, 0), "refused 5 0"),
 ]
 
 # the 28 bytes that document 01 prints for case C
@@ -75,12 +131,16 @@ def judged(log):
     return done.stdout.decode()
 
 
-# the replays that document 01's cases tell of: the k-th malloc names cell k; L's second starts with 7, which its cell held
+# the replays that the cases tell of: the k-th malloc names cell k; L's second starts with 7, which its cell held
 REPLAYS = {
     "B": malloc(0, 0, 7) + free(0),
     "E": malloc(0, 0, 0) + malloc(1, 1, 0) + field(5, 0, 0, 0, 1) + free(0) + malloc(0, 2, 0) + field(4, 0, 16, 0, 0),
     "L": malloc(0, 0, 7) + free(0) + malloc(0, 1, 7) + field(6, 0, 0, 0),
     "R": malloc(0, 0, 0),
+    "cas-done": malloc(0, 0, 0) + malloc(1, 1, 0) + copy(2, 0) + cas_done(0, 2, 1),
+    "cas-done-copies-invalid": malloc(0, 0, 0) + copy(1, 0) + free(0) + malloc(0, 1, 0) + cas_done(0, 0, 1),
+    "cas-failed": malloc(0, 0, 0) + malloc(1, 1, 0) + cas_failed(0, 1, 1),
+    "cas-treiber": FAST.push(0) + FAST.push(1) + SLOW.begin_pop() + SLOW.end_pop(),
 }
 
 
@@ -116,7 +176,7 @@ def main():
         if "--write" in sys.argv:
             open(path, "wb").write(data)
         elif open(path, "rb").read() != data:
-            sys.exit(f"examples/{name} is not what docs/01-scope.md gives")
+            sys.exit(f"examples/{name} is not what the documents give")
     if "--write" in sys.argv:
         return
     logs = [(log, verdict) for _, log, verdict in CASES] + list(more_logs())
@@ -126,7 +186,7 @@ def main():
             sys.exit(f"a log of {len(log)} bytes, {log[:40].hex()}..: {line!r}, and not {verdict!r}")
     for name, log, verdict in CASES:
         check_replay(name, log, verdict)
-    print(f"{len(logs)} logs judged and {len(CASES)} replayed as document 01 says")
+    print(f"{len(logs)} logs judged and {len(CASES)} replayed as the documents say")
 
 
 main()

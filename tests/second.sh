@@ -1,6 +1,7 @@
 #!/usr/bin/env bash
-# The second program, written from document 01 alone: its own tests, then random logs of a fixed seed, of which every printed line,
-# replay, tally and heap is compared with what the proved program says. A planted fault shows that the comparison can fail.
+# The second program, written from documents 01 and 02 alone: its own tests, then random logs of a fixed seed, of which every
+# printed line, replay, tally and heap is compared with what the proved program says. A planted fault shows that the comparison
+# can fail.
 #
 #     tests/second.sh [SEED COUNT]     any number of logs from any seed
 set -eu
@@ -13,7 +14,7 @@ fi
 cargo test --quiet --offline --manifest-path second/Cargo.toml
 cargo build --quiet --release --offline --manifest-path second/Cargo.toml
 second=second/target/release/second
-$second vectors second/vectors/base.tsv
+$second vectors second/vectors/order-01.tsv
 $second check "$seed" 500
 $second compare "$seed" "$count" ./thawhazel batch
 if $second --fault unset_selectors compare "$seed" 200 ./thawhazel batch >/dev/null; then

@@ -1,4 +1,5 @@
-//! Document 01's cases A to T, typed from the document.
+//! Document 01's cases A to T, typed from the document, and cases of its own
+//! for order 1 of document 02. tests/cases.py stores both as examples.
 
 use crate::field::{encode, row_of, Field, *};
 use crate::heap::{Heap, INVALID, UNSET};
@@ -16,6 +17,10 @@ fn m(p: u32, cell: u32, data: u32) -> Field {
 
 fn free(p: u32) -> Field {
     Field::of(FREE, &[0, p])
+}
+
+fn copy(p: u32, q: u32) -> Field {
+    Field::of(COPY, &[0, p, q])
 }
 
 fn judged(log: &[u8]) -> (String, Heap) {
@@ -198,4 +203,141 @@ fn case_s() {
 fn case_t() {
     assert_eq!(judged(&[0; 45_056]).0, "refused 5 0");
     assert_eq!(judged(&[0; 45_057]).0, "refused 1 0");
+}
+
+fn cas_done(p: u32, q: u32, r: u32) -> Field {
+    Field::of(CAS_DONE, &[0, p, q, r])
+}
+
+fn cas_failed(p: u32, q: u32, r: u32) -> Field {
+    Field::of(CAS_FAILED, &[0, p, q, r])
+}
+
+#[test]
+fn cas_that_holds() {
+    let begin = [m(0, 5, 0), m(1, 6, 0)];
+    let done = [&begin[..], &[copy(2, 0), cas_done(0, 2, 1)]].concat();
+    let (line, heap) = judged(&bytes(&done));
+    assert_eq!(line, "accepted 4 2 2");
+    assert_eq!(heap.pointers[..3], [6, 6, 5]);
+    let failed = [&begin[..], &[cas_failed(0, 1, 1)]].concat();
+    let (line, heap) = judged(&bytes(&failed));
+    assert_eq!(line, "accepted 3 2 2");
+    assert_eq!(heap.pointers[..2], [5, 6]);
+}
+
+#[test]
+fn cas_that_does_not_hold() {
+    let unequal = [m(0, 5, 0), m(1, 6, 0), cas_done(0, 1, 1)];
+    let (line, heap) = judged(&bytes(&unequal));
+    assert_eq!(line, "refused 14 2");
+    assert_eq!(heap.pointers[0], 5);
+    let equal = [m(0, 5, 0), cas_failed(0, 0, 1)];
+    assert_eq!(self::line(&equal), "refused 14 1");
+}
+
+/// p1 keeps the cell of p0, which is freed and, at times, given out again.
+fn stale_p1(again: bool, last: Field) -> Vec<u8> {
+    let mut fields = vec![m(0, 5, 0), copy(1, 0), free(0)];
+    fields.extend(again.then_some(m(0, 5, 0)));
+    fields.push(last);
+    bytes(&fields)
+}
+
+#[test]
+fn cas_that_races() {
+    for cas in [cas_done, cas_failed] {
+        let line = |again, last| judged(&stale_p1(again, last)).0;
+        // Both are stale, and p is looked at first.
+        assert_eq!(line(false, cas(1, 0, 2)), "race 3 0 1");
+        assert_eq!(line(true, cas(1, 0, 2)), "race 4 0 1");
+        assert_eq!(line(true, cas(0, 1, 2)), "race 4 0 1");
+    }
+}
+
+#[test]
+fn cas_only_copies_r() {
+    let log = stale_p1(true, cas_done(0, 0, 1));
+    let (line, heap) = judged(&log);
+    assert_eq!(line, "accepted 5 2 1");
+    assert_eq!(heap.pointers[..2], [2053, 2053]);
+    let expected = [
+        m(0, 0, 0),
+        copy(1, 0),
+        free(0),
+        m(0, 1, 0),
+        cas_done(0, 0, 1),
+    ];
+    assert_eq!(replay(&log), bytes(&expected));
+    let (line, heap) = judged(&stale_p1(true, cas_failed(0, 2, 1)));
+    assert_eq!(line, "accepted 5 2 1");
+    assert_eq!(heap.pointers[..2], [5, 2053]);
+}
+
+#[test]
+fn cas_names_no_foreign_r() {
+    assert_eq!(line(&[cas_failed(0, 0, 24)]), "refused 8 0");
+    assert_eq!(judged(&[16, 4, 0, 0, 0, 0, 0]).0, "refused 5 0");
+}
+
+/// Source 004, Example 1: one thread at Treiber's stack, whose top is p0.
+struct Treiber {
+    thread: u32,
+}
+
+impl Treiber {
+    fn field(&self, tag: u8, numbers: &[u32]) -> Field {
+        Field::of(tag, &[&[self.thread], numbers].concat())
+    }
+
+    /// The thread's own ptop and pnode.
+    fn locals(&self) -> (u32, u32) {
+        (owned(self.thread, 0), owned(self.thread, 1))
+    }
+
+    fn cas(&self) -> Field {
+        let (ptop, pnode) = self.locals();
+        self.field(CAS_DONE, &[0, ptop, pnode])
+    }
+
+    fn push(&self, cell: u32) -> Vec<Field> {
+        let (ptop, pnode) = self.locals();
+        vec![
+            self.field(MALLOC, &[pnode, cell, 0]),
+            self.field(SET_DATA, &[pnode, owned(self.thread, 0)]),
+            self.field(COPY, &[ptop, 0]),
+            self.field(STORE, &[pnode, 0, ptop]),
+            self.cas(),
+        ]
+    }
+
+    fn begin_pop(&self) -> Vec<Field> {
+        let (ptop, pnode) = self.locals();
+        vec![
+            self.field(COPY, &[ptop, 0]),
+            self.field(LOAD, &[pnode, ptop, 0]),
+        ]
+    }
+
+    fn end_pop(&self) -> Vec<Field> {
+        let (ptop, _) = self.locals();
+        vec![
+            self.cas(),
+            self.field(GET_DATA, &[owned(self.thread, 0), ptop]),
+            self.field(FREE, &[ptop]),
+        ]
+    }
+}
+
+#[test]
+fn cas_of_the_aba_races() {
+    let (slow, fast) = (Treiber { thread: 0 }, Treiber { thread: 1 });
+    let begin = [fast.push(6), fast.push(5), slow.begin_pop()].concat();
+    let alone = [&begin[..], &slow.end_pop()].concat();
+    assert_eq!(line(&alone), "accepted 15 2 1");
+    let other = [fast.begin_pop(), fast.end_pop(), fast.push(7), fast.push(5)].concat();
+    let (line, heap) = judged(&bytes(&[begin, other, slow.end_pop()].concat()));
+    assert_eq!(line, "race 27 0 16");
+    // Without the mark the two sides are equal.
+    assert_eq!((heap.pointers[0], heap.pointers[16]), (5, 2053));
 }

@@ -4,13 +4,15 @@ use crate::refusal::*;
 use std::ops::{Index, IndexMut};
 use Slot::*;
 
-/// A place in a field's value. Its name is the one document 01's table uses;
-/// `Number` is the data of a malloc and the constant of tag 8.
+/// A place in a field's value. Its name is the one document 01's table uses,
+/// and order 1 of document 02 for tags 14 and 15; `Number` is the data of a
+/// malloc and the constant of tag 8.
 #[derive(Clone, Copy, PartialEq, Eq, Debug)]
 pub enum Slot {
     Thread,
     P,
     Q,
+    R,
     Sel,
     X,
     Y,
@@ -19,7 +21,7 @@ pub enum Slot {
     Number,
 }
 
-const SLOTS: usize = 9;
+const SLOTS: usize = 10;
 
 pub const MALLOC: u8 = 1;
 pub const FREE: u8 = 2;
@@ -34,6 +36,8 @@ pub const OTHER_CELL: u8 = 10;
 pub const SAME_NUMBER: u8 = 11;
 pub const OTHER_NUMBER: u8 = 12;
 pub const SUM: u8 = 13;
+pub const CAS_DONE: u8 = 14;
+pub const CAS_FAILED: u8 = 15;
 
 /// One line of the table.
 pub struct Row {
@@ -43,7 +47,8 @@ pub struct Row {
     pub length: usize,
 }
 
-pub const TAGS: usize = 13;
+pub const LAST_TAG: u8 = 15;
+pub const TAGS: usize = LAST_TAG as usize;
 
 pub const TABLE: [Row; TAGS] = [
     row(1, "p := malloc", &[Thread, P, Cell, Number], 8),
@@ -59,6 +64,8 @@ pub const TABLE: [Row; TAGS] = [
     row(11, "assert x = y", &[Thread, X, Y], 3),
     row(12, "assert x ≠ y", &[Thread, X, Y], 3),
     row(13, "x := y + z", &[Thread, X, Y, Z], 4),
+    row(14, "cas done", &[Thread, P, Q, R], 4),
+    row(15, "cas failed", &[Thread, P, Q, R], 4),
 ];
 
 const fn row(tag: u8, command: &'static str, slots: &'static [Slot], length: usize) -> Row {
@@ -70,7 +77,7 @@ const fn row(tag: u8, command: &'static str, slots: &'static [Slot], length: usi
     }
 }
 
-/// The line of a tag, `None` where the tag is not 1 to 13.
+/// The line of a tag, `None` where the tag is not 1 to 15.
 pub fn row_of(tag: u8) -> Option<&'static Row> {
     TABLE.iter().find(|row| row.tag == tag)
 }
@@ -93,7 +100,7 @@ impl Slot {
     }
 
     fn is_variable(self) -> bool {
-        matches!(self, P | Q | X | Y | Z)
+        matches!(self, P | Q | R | X | Y | Z)
     }
 }
 
@@ -144,11 +151,15 @@ impl Field {
     }
 }
 
+/// One of a thread's own variables, by its place among them.
+pub fn owned(thread: u32, place: u32) -> u32 {
+    SHARED_VARIABLES + OWNED_VARIABLES * thread + place
+}
+
 /// Whether a thread may name a variable: the shared ones and its own.
 pub fn may_name(thread: u32, variable: u32) -> bool {
-    let first_owned = SHARED_VARIABLES + OWNED_VARIABLES * thread;
-    let owned = first_owned..first_owned + OWNED_VARIABLES;
-    variable < SHARED_VARIABLES || (variable <= LAST_VARIABLE && owned.contains(&variable))
+    let own = owned(thread, 0)..owned(thread, OWNED_VARIABLES);
+    variable < SHARED_VARIABLES || (variable <= LAST_VARIABLE && own.contains(&variable))
 }
 
 /// Checks 7 to 10, the same for the reader and the writer. Only the numbers
@@ -248,14 +259,16 @@ mod tests {
         assert_eq!(command(SAME_NUMBER), "assert x = y");
         assert_eq!(command(OTHER_NUMBER), "assert x ≠ y");
         assert_eq!(command(SUM), "x := y + z");
+        assert_eq!(command(CAS_DONE), "cas done");
+        assert_eq!(command(CAS_FAILED), "cas failed");
     }
 
     #[test]
     fn reading_refuses_in_order() {
         assert_eq!(read(&[]), Err(4));
-        assert_eq!(read(&[14]), Err(4));
-        assert_eq!(read(&[14, 0]), Err(4));
-        assert_eq!(read(&[14, 0, 0]), Err(5));
+        assert_eq!(read(&[16]), Err(4));
+        assert_eq!(read(&[16, 0]), Err(4));
+        assert_eq!(read(&[16, 0, 0]), Err(5));
         assert_eq!(read(&[0, 0, 0]), Err(5));
         assert_eq!(read(&[2, 3, 0]), Err(6));
         assert_eq!(read(&[2, 2, 1, 0, 0]), Err(6));
@@ -266,6 +279,20 @@ mod tests {
         assert_eq!(read(&[4, 4, 0, 7, 79, 72, 2]), Err(9));
         assert_eq!(read(&[1, 8, 0, 0, 24, 0, 4, 0, 0, 0, 0]), Err(8));
         assert_eq!(read(&[1, 8, 0, 0, 23, 0, 4, 0, 0, 0, 0]), Err(10));
+    }
+
+    #[test]
+    fn every_variable_of_a_cas_counts() {
+        for tag in [CAS_DONE, CAS_FAILED] {
+            let good = Field::of(tag, &[1, 15, 24, 31]);
+            assert_eq!(read(&[tag, 4, 0, 1, 15, 24, 31]), Ok(good));
+            assert_eq!(read(&[tag, 4, 0, 1, 16, 24, 31]), Err(8));
+            assert_eq!(read(&[tag, 4, 0, 1, 15, 23, 31]), Err(8));
+            assert_eq!(read(&[tag, 4, 0, 1, 15, 24, 32]), Err(8));
+            assert_eq!(read(&[tag, 4, 0, 8, 80, 80, 80]), Err(7));
+            assert_eq!(read(&[tag, 3, 0, 1, 15, 24, 31]), Err(6));
+            assert_eq!(read(&[tag, 4, 0, 1, 15, 24]), Err(4));
+        }
     }
 
     #[test]
@@ -280,7 +307,8 @@ mod tests {
         let mut output = [0xEE; 10];
         let cases = [
             (Field::of(0, &[]), 5),
-            (Field::of(14, &[]), 5),
+            (Field::of(16, &[]), 5),
+            (Field::of(CAS_FAILED, &[0, 0, 0, 80]), 8),
             (Field::of(LOAD, &[8, 80, 80, 2]), 7),
             (Field::of(LOAD, &[0, 24, 0, 2]), 8),
             (Field::of(LOAD, &[0, 23, 15, 2]), 9),

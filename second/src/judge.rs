@@ -69,8 +69,18 @@ pub fn looked_at(tag: u8) -> &'static [Slot] {
     match tag {
         LOAD => &[Q],
         FREE | STORE | GET_DATA | SET_DATA => &[P],
-        SAME_CELL | OTHER_CELL => &[P, Q],
+        _ if asserts_equal(tag).is_some() => &[P, Q],
         _ => &[],
+    }
+}
+
+/// Whether a command asserts that p and q are equal or that they differ. A cas
+/// done starts as the one assertion, a cas failed is the other.
+pub fn asserts_equal(tag: u8) -> Option<bool> {
+    match tag {
+        SAME_CELL | CAS_DONE => Some(true),
+        OTHER_CELL | CAS_FAILED => Some(false),
+        _ => None,
     }
 }
 
@@ -208,6 +218,7 @@ impl Judge {
             MALLOC => self.malloc(field, heap),
             FREE => self.free(p, heap),
             COPY => heap.pointers[p] = heap.pointers[q],
+            CAS_DONE => heap.pointers[p] = heap.pointers[field.at(R)],
             LOAD => heap.pointers[p] = heap.selectors[selector_through(field, Q, heap)],
             STORE => {
                 let place = selector_through(field, P, heap);
@@ -292,24 +303,25 @@ fn selector_through(field: &Field, slot: Slot, heap: &Heap) -> usize {
 
 /// Fault `copy_races`: the variable named is the one the word comes through.
 fn racing_copy(field: &Field, heap: &Heap) -> Option<u32> {
-    let through = heap.pointers[field.at(Q)];
+    let source = if field.tag == CAS_DONE { R } else { Q };
+    let through = heap.pointers[field.at(source)];
     let copied = match field.tag {
-        COPY | STORE => through,
+        COPY | STORE | CAS_DONE => through,
         LOAD => heap.selectors[selector_place(cell_of(through)?, field.at(Sel))],
         _ => return None,
     };
-    (!is_valid(copied)).then_some(field[Q])
+    (!is_valid(copied)).then_some(field[source])
 }
 
 fn assertion_holds(field: &Field, heap: &Heap) -> bool {
     let cell = |slot: Slot| cell_of(heap.pointers[field.at(slot)]);
     let number = |slot: Slot| heap.data_variables[field.at(slot)];
+    if let Some(wanted) = asserts_equal(field.tag) {
+        // Source 004: with an unset side both = and ≠ pass.
+        let unset = cell(P).is_none() || cell(Q).is_none();
+        return unset || (cell(P) == cell(Q)) == wanted;
+    }
     match field.tag {
-        SAME_CELL | OTHER_CELL => match (cell(P), cell(Q)) {
-            (Some(p), Some(q)) => (p == q) == (field.tag == SAME_CELL),
-            // Source 004: with an unset side both = and ≠ pass.
-            _ => true,
-        },
         SAME_NUMBER => number(X) == number(Y),
         OTHER_NUMBER => number(X) != number(Y),
         _ => true,

@@ -4,7 +4,7 @@ use crate::field::{row_of, HEADER};
 use crate::heap::{Heap, UNSET};
 use crate::hex::to_hex;
 use crate::judge::{Judge, Tally, Verdict};
-use crate::refusal::{HEAP_TOO_SHORT, LOG_TOO_LONG, OUTPUT_TOO_SHORT};
+use crate::refusal::{ASSERTION_FAILS, HEAP_TOO_SHORT, LOG_TOO_LONG, OUTPUT_TOO_SHORT};
 use crate::replay::write_replay;
 use std::collections::BTreeMap;
 use std::fmt;
@@ -64,6 +64,7 @@ pub enum Kind {
     Accepted,
     RaceBy(u8),
     Refused(u8),
+    FailsBy(u8),
 }
 
 impl Kind {
@@ -71,6 +72,10 @@ impl Kind {
         match *verdict {
             Verdict::Accepted { .. } => Kind::Accepted,
             Verdict::Race { field, .. } => Kind::RaceBy(tag_at(log, field)),
+            Verdict::Refused {
+                number: ASSERTION_FAILS,
+                field,
+            } => Kind::FailsBy(tag_at(log, field)),
             Verdict::Refused { number, .. } => Kind::Refused(number),
         }
     }
@@ -86,13 +91,16 @@ impl fmt::Display for Kind {
     fn fmt(&self, out: &mut fmt::Formatter) -> fmt::Result {
         match self {
             Kind::Accepted => write!(out, "accepted"),
-            Kind::RaceBy(tag) => {
-                let command = row_of(*tag).map_or("no command", |row| row.command);
-                write!(out, "race by tag {tag} ({command})")
-            }
+            Kind::RaceBy(tag) => write!(out, "race by {}", named(*tag)),
             Kind::Refused(number) => write!(out, "refused {number}"),
+            Kind::FailsBy(tag) => write!(out, "refused {ASSERTION_FAILS} by {}", named(*tag)),
         }
     }
+}
+
+fn named(tag: u8) -> String {
+    let command = row_of(tag).map_or("no command", |row| row.command);
+    format!("tag {tag} ({command})")
 }
 
 /// The tag of a field that a run has reached.

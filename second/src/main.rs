@@ -1,5 +1,5 @@
-//! A second, independent judge of pointer logs, written from document 01 and
-//! the outside vectors alone, to compare the first with.
+//! A second, independent judge of pointer logs, written from documents 01
+//! and 02 and the outside vectors alone, to compare the first with.
 
 #[cfg(test)]
 mod cases;

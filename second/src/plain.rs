@@ -98,8 +98,8 @@ impl PlainHeap {
         let y = self.data_variables[field.at(Y)];
         let one_unset = p.is_none() || q.is_none();
         match field.tag {
-            SAME_CELL => one_unset || p == q,
-            OTHER_CELL => one_unset || p != q,
+            SAME_CELL | CAS_DONE => one_unset || p == q,
+            OTHER_CELL | CAS_FAILED => one_unset || p != q,
             SAME_NUMBER => x == y,
             OTHER_NUMBER => x != y,
             _ => true,
@@ -114,6 +114,7 @@ impl PlainHeap {
             (MALLOC, _, _) => self.malloc(p, field.at(Cell), field[Number]),
             (FREE, Some(cell), _) => self.statuses[cell] = FREED,
             (COPY, _, source) => self.pointers[p] = source,
+            (CAS_DONE, _, _) => self.pointers[p] = self.pointers[field.at(R)],
             (LOAD, _, Some(cell)) => self.pointers[p] = self.selectors[cell][sel],
             (STORE, Some(cell), source) => self.selectors[cell][sel] = source,
             (GET_DATA, Some(cell), _) => self.data_variables[x] = self.cell_data[cell],
@@ -124,7 +125,7 @@ impl PlainHeap {
                 let z = self.data_variables[field.at(Z)];
                 self.data_variables[x] = y.wrapping_add(z);
             }
-            // Assertions, and the free of an unset pointer.
+            // Assertions, a cas failed, and the free of an unset pointer.
             _ => {}
         }
     }

@@ -9,6 +9,8 @@ mod style;
 
 pub use edges::edge_field;
 
+use crate::field::LAST_TAG;
+
 /// Splitmix64.
 pub struct Random {
     state: u64,
@@ -51,6 +53,10 @@ impl Random {
 
     pub fn byte(&mut self) -> u8 {
         self.next() as u8
+    }
+
+    pub fn tag(&mut self) -> u8 {
+        self.between(1, usize::from(LAST_TAG)) as u8
     }
 
     /// A data number: often small, so that assertions meet equal ones, and
@@ -96,11 +102,14 @@ mod tests {
             .map(|index| Kind::of_log(&Judge::default(), &make_log(1, index)))
             .collect();
         assert!(kinds.contains(&Kind::Accepted));
-        for tag in [2, 4, 5, 6, 7, 9, 10] {
+        for tag in [2, 4, 5, 6, 7, 9, 10, 14, 15] {
             assert!(kinds.contains(&Kind::RaceBy(tag)), "no race by {tag}");
         }
+        for tag in [9, 10, 11, 12, 14, 15] {
+            assert!(kinds.contains(&Kind::FailsBy(tag)), "no failure by {tag}");
+        }
         // 2 and 15 need short buffers, which a log cannot bring about.
-        for number in (1..=14).filter(|&number| number != 2) {
+        for number in (1..=13).filter(|&number| number != 2) {
             assert!(
                 kinds.contains(&Kind::Refused(number)),
                 "no refusal {number}"

@@ -41,11 +41,11 @@ fn compare_vector(judge: &Judge, line: &str) -> Result<(), String> {
 mod tests {
     use super::*;
 
-    const BASE: &str = include_str!("../vectors/base.tsv");
+    const OUTSIDE: &str = include_str!("../vectors/order-01.tsv");
 
     #[test]
-    fn base_vectors_agree() {
-        assert_eq!(compare_vectors(&Judge::default(), BASE), Ok(429));
+    fn outside_vectors_agree() {
+        assert_eq!(compare_vectors(&Judge::default(), OUTSIDE), Ok(275));
     }
 
     #[test]

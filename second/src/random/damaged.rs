@@ -56,7 +56,8 @@ fn damage_fields(random: &mut Random, log: &mut Vec<u8>) {
             let value = 3 + random.below(fields[at].len() - 3);
             fields[at][value] = random.below(24) as u8;
         }
-        // Commands of one length change places: = with ≠, load with store.
+        // Commands of one length change places: = with ≠, load with store, cas
+        // done with cas failed.
         _ => change_tag(random, &mut fields[at]),
     }
     *log = fields.concat();
@@ -65,7 +66,7 @@ fn damage_fields(random: &mut Random, log: &mut Vec<u8>) {
 fn change_tag(random: &mut Random, field: &mut [u8]) {
     field[0] = match field[1] {
         3 => random.one_of(&[3, 6, 7, 9, 10, 11, 12]),
-        4 => random.one_of(&[4, 5, 13]),
+        4 => random.one_of(&[4, 5, 13, 14, 15]),
         _ => field[0],
     };
 }

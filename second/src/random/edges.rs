@@ -2,7 +2,9 @@
 
 use super::guided::clean_log;
 use super::Random;
-use crate::field::{encode, row_of, Field, Slot, FREE, LOAD, MALLOC, STORE};
+use crate::field::{
+    encode, owned, row_of, Field, Slot, FREE, LAST_TAG, LAST_THREAD, LOAD, MALLOC, STORE,
+};
 use crate::judge::{MAX_FIELDS, MAX_LOG_BYTES, MAX_MALLOCS};
 
 pub fn edge_log(random: &mut Random) -> Vec<u8> {
@@ -46,7 +48,7 @@ fn full_of_fields(random: &mut Random) -> Vec<u8> {
         &free[..1],
         &free[..4],
         &free,
-        &[14, 0, 0],
+        &[LAST_TAG + 1, 0, 0],
         &[2, 2, 0, 8, 0],
         &[6, 3, 0, 0, 0, 0],
     ];
@@ -83,7 +85,7 @@ fn with_edge_header(random: &mut Random) -> Vec<u8> {
     let row = row_of(field.tag).expect("edge fields have rows");
     let mut bytes = encode(row, &field);
     match random.below(5) {
-        0 => bytes[0] = random.one_of(&[0, 13, 14, 255]),
+        0 => bytes[0] = random.one_of(&[0, LAST_TAG, LAST_TAG + 1, 255]),
         1 => bytes[1] = bytes[1].wrapping_add(random.one_of(&[1, 255])),
         2 => bytes[2] = random.one_of(&[1, 255]),
         3 => bytes[1..3].fill(0),
@@ -117,9 +119,9 @@ pub fn edge_field(random: &mut Random) -> Field {
     let tag = if random.percent(40) {
         random.one_of(&[MALLOC, MALLOC, LOAD, STORE])
     } else {
-        random.between(1, 13) as u8
+        random.tag()
     };
-    let row = row_of(tag).expect("tags 1 to 13 have rows");
+    let row = row_of(tag).expect("random tags have rows");
     let manner = random.below(3);
     let only_wrong = random.below(row.slots.len());
     let mut field = Field::blank(tag);
@@ -136,7 +138,7 @@ pub fn edge_field(random: &mut Random) -> Field {
 
 /// A number just on the right or the wrong side of an edge.
 fn edge_number(random: &mut Random, slot: Slot, thread: u32, wrong: bool) -> u32 {
-    let first_owned = 16 + 8 * thread.min(7);
+    let first_owned = owned(thread.min(LAST_THREAD), 0);
     let right_variables = [0, 15, first_owned, first_owned + 7];
     // Some are right after all: 15, just below thread 0's own, is shared, and
     // 79 is thread 7's.

@@ -5,7 +5,7 @@ use super::style::Style;
 use super::Random;
 use crate::field::{self, may_name, Field, *};
 use crate::heap::{cell_of, is_valid, selector_place, Heap, CELLS, LIVE, POINTERS};
-use crate::judge::{Judge, Tally, MAX_FIELDS, MAX_MALLOCS};
+use crate::judge::{asserts_equal, Judge, Tally, MAX_FIELDS, MAX_MALLOCS};
 
 /// How a guided log ends.
 #[derive(Clone, Copy)]
@@ -50,15 +50,31 @@ pub fn clean_log(random: &mut Random, most_fields: usize) -> Vec<u8> {
     guide.log
 }
 
+/// The commands that can race; each kind of cas counts for two.
+const RACING: [u8; 11] = [
+    FREE, LOAD, STORE, GET_DATA, SET_DATA, SAME_CELL, OTHER_CELL, CAS_DONE, CAS_DONE, CAS_FAILED,
+    CAS_FAILED,
+];
+
+/// The assertions; each kind of cas counts for two.
+const ASSERTING: [u8; 8] = [
+    SAME_CELL,
+    OTHER_CELL,
+    SAME_NUMBER,
+    OTHER_NUMBER,
+    CAS_DONE,
+    CAS_DONE,
+    CAS_FAILED,
+    CAS_FAILED,
+];
+
 fn any_ending(random: &mut Random) -> Ending {
     match random.below(100) {
-        0..=54 => Ending::Clean,
-        55..=57 => Ending::TooManyMallocs,
-        58..=84 => Ending::Race(
-            random.one_of(&[FREE, LOAD, STORE, GET_DATA, SET_DATA, SAME_CELL, OTHER_CELL]),
-        ),
-        85..=89 => Ending::UnsetPointer,
-        90..=94 => Ending::LiveCell,
+        0..=49 => Ending::Clean,
+        50..=52 => Ending::TooManyMallocs,
+        53..=81 => Ending::Race(random.one_of(&RACING)),
+        82..=85 => Ending::UnsetPointer,
+        86..=89 => Ending::LiveCell,
         _ => Ending::FailingAssertion,
     }
 }
@@ -144,9 +160,11 @@ impl<'r> Guide<'r> {
             GET_DATA => vec![t, self.name(t), self.solid(t)?],
             SET_DATA => vec![t, self.solid(t)?, self.name(t)],
             CONSTANT => vec![t, self.name(t), self.random.number()],
-            SAME_CELL | OTHER_CELL => {
+            SAME_CELL | OTHER_CELL | CAS_DONE | CAS_FAILED => {
                 let p = self.valid(t)?;
-                vec![t, p, self.partner(t, p, tag == SAME_CELL)?]
+                let q = self.partner(t, p, asserts_equal(tag) == Some(true))?;
+                // Only a cas takes the third variable.
+                vec![t, p, q, self.source(t)]
             }
             SAME_NUMBER | OTHER_NUMBER => {
                 let x = self.name(t);
@@ -343,17 +361,16 @@ impl<'r> Guide<'r> {
     /// times malloc of the same cell again.
     fn plant_stale(&mut self) {
         let thread = self.thread();
-        let own = |place: u32| SHARED_VARIABLES + OWNED_VARIABLES * thread + place;
         let cell = match self.any_cell(|status| status != LIVE) {
             Some(cell) if self.tally.mallocs + 2 <= MAX_MALLOCS => cell,
             _ => return,
         };
         let shared = self.random.below(SHARED_VARIABLES as usize) as u32;
-        self.push(&Field::of(MALLOC, &[thread, own(0), cell, 3]));
-        self.push(&Field::of(COPY, &[thread, shared, own(0)]));
-        self.push(&Field::of(FREE, &[thread, own(0)]));
+        self.push(&Field::of(MALLOC, &[thread, owned(thread, 0), cell, 3]));
+        self.push(&Field::of(COPY, &[thread, shared, owned(thread, 0)]));
+        self.push(&Field::of(FREE, &[thread, owned(thread, 0)]));
         if self.random.percent(60) {
-            self.push(&Field::of(MALLOC, &[thread, own(1), cell, 4]));
+            self.push(&Field::of(MALLOC, &[thread, owned(thread, 1), cell, 4]));
         }
     }
 
@@ -369,9 +386,9 @@ impl<'r> Guide<'r> {
             (STORE, _) => vec![t, stale, self.selector(), self.source(t)],
             (GET_DATA, _) => vec![t, self.name(t), stale],
             (SET_DATA, _) => vec![t, stale, self.name(t)],
-            // In an assertion either side may be the stale one, or both.
-            (_, Some(p)) => vec![t, p, stale],
-            (_, None) => vec![t, stale, self.source(t)],
+            // In an assertion or a cas either side may be the stale one, or both.
+            (_, Some(p)) => vec![t, p, stale, self.source(t)],
+            (_, None) => vec![t, stale, self.source(t), self.source(t)],
         };
         Some(Field::of(tag, &numbers))
     }
@@ -403,16 +420,46 @@ impl<'r> Guide<'r> {
     fn failing_assertion(&mut self) -> Option<Field> {
         let t = self.thread();
         let x = self.name(t);
-        let p = self.solid(t).unwrap_or(0);
-        let other = |same: bool, guide: &mut Self| guide.partner(t, p, same).unwrap_or(p);
-        let field = match self.random.below(4) {
-            0 => Field::of(SAME_CELL, &[t, p, other(false, self)]),
-            1 => Field::of(OTHER_CELL, &[t, p, other(true, self)]),
-            2 => Field::of(SAME_NUMBER, &[t, x, self.number_partner(t, x, false)?]),
-            _ => Field::of(OTHER_NUMBER, &[t, x, self.number_partner(t, x, true)?]),
+        let tag = self.random.one_of(&ASSERTING);
+        let numbers = match asserts_equal(tag) {
+            Some(same) => self.unlike_wanted(t, same),
+            None => self
+                .number_partner(t, x, tag == OTHER_NUMBER)
+                .map(|y| vec![t, x, y]),
         };
-        let fails = Field::of(OTHER_NUMBER, &[t, x, x]);
-        Some(if self.passes(&field) { fails } else { field })
+        let field = numbers.map(|numbers| Field::of(tag, &numbers));
+        let failing = field.filter(|field| !self.passes(field));
+        Some(failing.unwrap_or_else(|| Field::of(OTHER_NUMBER, &[t, x, x])))
+    }
+
+    /// Two sides that are not as a pointer assertion wants them, and what a
+    /// cas would copy. Where the style's variables have no such sides, two
+    /// cells are given out for it.
+    fn unlike_wanted(&mut self, t: u32, same: bool) -> Option<Vec<u32>> {
+        let p = self.solid(t);
+        let found = p.and_then(|p| Some((p, self.partner(t, p, !same)?)));
+        let set = found.filter(|&(_, q)| is_solid(&self.heap, q));
+        let (p, q) = match set {
+            Some(sides) => sides,
+            None => {
+                let (first, second) = self.plant_pair(t)?;
+                (first, if same { second } else { first })
+            }
+        };
+        Some(vec![t, p, q, self.source(t)])
+    }
+
+    /// Gives out two cells, to two pointers of the thread.
+    fn plant_pair(&mut self, thread: u32) -> Option<(u32, u32)> {
+        if self.tally.mallocs + 2 > MAX_MALLOCS {
+            return None;
+        }
+        let pair = (owned(thread, 0), owned(thread, 1));
+        for p in [pair.0, pair.1] {
+            let cell = self.any_cell(|status| status != LIVE)?;
+            self.push(&Field::of(MALLOC, &[thread, p, cell, 0]));
+        }
+        Some(pair)
     }
 
     /// Uses up all mallocs, with frees between where the style's cells run

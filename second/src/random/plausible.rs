@@ -1,7 +1,7 @@
 //! Random bytes with plausible tags: mostly framed, little else considered.
 
 use super::Random;
-use crate::field::{encode, row_of, Field, Row, Slot};
+use crate::field::{encode, row_of, Field, Row, Slot, LAST_TAG};
 
 pub fn plausible_log(random: &mut Random) -> Vec<u8> {
     if random.percent(10) {
@@ -10,8 +10,7 @@ pub fn plausible_log(random: &mut Random) -> Vec<u8> {
     let spread = random.one_of(&[1, 2, 4, 16]);
     let mut log = Vec::new();
     for _ in 0..random.between(1, 40) {
-        let tag = random.between(1, 13) as u8;
-        let row = row_of(tag).expect("tags 1 to 13 have rows");
+        let row = row_of(random.tag()).expect("random tags have rows");
         let mut bytes = encode(row, &plausible_field(random, row, spread));
         if random.percent(2) {
             let header = random.below(3);
@@ -27,7 +26,9 @@ pub fn plausible_log(random: &mut Random) -> Vec<u8> {
 
 fn raw_bytes(random: &mut Random) -> Vec<u8> {
     let length = random.below(40);
-    (0..length).map(|_| random.byte() % 15).collect()
+    (0..length)
+        .map(|_| random.byte() % (LAST_TAG + 2))
+        .collect()
 }
 
 fn plausible_field(random: &mut Random, row: &Row, spread: usize) -> Field {

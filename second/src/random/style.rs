@@ -2,7 +2,7 @@
 //! how often each command. Narrow styles bring words to meet often.
 
 use super::Random;
-use crate::field::{OWNED_VARIABLES, SHARED_VARIABLES, TAGS};
+use crate::field::{owned, OWNED_VARIABLES, SHARED_VARIABLES, TAGS};
 use crate::heap::CELLS;
 
 const ALL_SHARED: usize = SHARED_VARIABLES as usize;
@@ -67,14 +67,13 @@ impl Style {
         if place < self.shared.size {
             self.shared.at(place) as u32
         } else {
-            let own = self.owned.at(place - self.shared.size) as u32;
-            SHARED_VARIABLES + OWNED_VARIABLES * thread + own
+            owned(thread, self.owned.at(place - self.shared.size) as u32)
         }
     }
 }
 
 fn any_weights(random: &mut Random) -> [usize; TAGS] {
-    let mut weights = [14, 8, 8, 12, 12, 5, 5, 5, 4, 4, 3, 3, 4];
+    let mut weights = [14, 8, 8, 12, 12, 5, 5, 5, 4, 4, 3, 3, 4, 8, 6];
     for weight in weights.iter_mut() {
         *weight = (*weight * random.one_of(&[1, 2, 2, 2, 4])) / 2;
     }
