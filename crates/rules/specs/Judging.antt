@@ -12,6 +12,7 @@ use Rattle.rules.specs.declared.Tally.{Tally}
 use Rattle.rules.specs.declared.Verdict.{Verdict}
 use Rattle.rules.specs.declared.Verdict.the-variants.{Refused}
 use Rattle.rules.specs.State.{State, boardPointers, boardVariables, heapSelectors, fresh}
+use Rattle.rules.specs.Run.{tallyOf}
 use Rattle.rules.specs.Log.{runBytes}
 
 -- the five buffers, each of any length, and the tally
@@ -43,13 +44,13 @@ longEnough l =
     && leb cells (length (l .numbers))
     && leb cells (length (l .status))
 
--- what is lent, with a state at the fronts of the buffers
+-- what is lent, with a state at the fronts of the buffers and its tally
 abbrev pub showing : State → Lent → Lent
 showing s l =
     lent (s .pointers ++ drop boardPointers (l .pointers)) (s .selectors ++ drop heapSelectors (l .selectors))
     (s .variables ++ drop boardVariables (l .variables)) (s .numbers ++ drop cells (l .numbers))
     (s .status ++ drop cells (l .status))
-    (record { fields = s .fields; mallocs = s .mallocs })
+    (tallyOf s)
 
 -- the verdict, and what is lent afterwards
 pub record Judged : Type 0 where

@@ -9,6 +9,7 @@ use Rattle.fields.specs.declared.Refusal.{Refusal}
 use Rattle.rules.specs.declared.Act.{Act}
 use Rattle.rules.specs.declared.Answer.{Answer}
 use Rattle.rules.specs.declared.Answer.the-variants.{Go, Race, Refuse}
+use Rattle.rules.specs.declared.Tally.{Tally}
 use Rattle.rules.specs.declared.Verdict.{Verdict}
 use Rattle.rules.specs.declared.Verdict.the-variants.{Accepted, Raced, Refused}
 use Rattle.rules.specs.State.{State, live}
@@ -38,8 +39,13 @@ abbrev pub liveCount : List ℕ → ℕ
 liveCount [] = 0
 liveCount (x ∷ xs) = cond (eqb x live) 1 0 + liveCount xs
 
+-- the tally of a state: the number of live cells that it keeps is the count of the statuses equal to 1
+abbrev pub tallyOf : State → Tally
+tallyOf s = record { fields = s .fields; mallocs = s .mallocs; live = liveCount (s .status) }
+
+-- an accepted log's numbers are those of the tally
 abbrev pub endVerdict : End → State → Verdict
-endVerdict whole s = Accepted (s .fields) (s .mallocs) (liveCount (s .status))
+endVerdict whole s = Accepted (tallyOf s .fields) (tallyOf s .mallocs) (tallyOf s .live)
 endVerdict (unread r) s = Refused r (s .fields)
 
 -- the outcome at field n, being f, by its answer: a stop leaves s, else the later fields decide

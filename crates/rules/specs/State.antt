@@ -42,7 +42,7 @@ pub record State : Type 0 where
   pub numbers : List ℕ
   -- of each cell
   pub status : List ℕ
-  -- the tally: fields done and mallocs done
+  -- of the tally: fields done and mallocs done; its live cells are counted from the statuses (tallyOf, Run.antt)
   pub fields : ℕ
   pub mallocs : ℕ
 
@@ -67,7 +67,7 @@ abbrev pub freshHeap : Heap
 freshHeap = record { selectors = replicate heapSelectors unset; numbers = replicate cells 0; status = replicate cells neverUsed }
 
 abbrev pub freshTally : Tally
-freshTally = record { fields = 0; mallocs = 0 }
+freshTally = record { fields = 0; mallocs = 0; live = 0 }
 
 unfoldable pub fresh : State
 fresh = stateOf freshBoard freshTally (freshHeap .selectors) (freshHeap .numbers) (freshHeap .status)

@@ -64,10 +64,11 @@ impl Heap {
     }
 }
 
-// Fields done and mallocs done.
+// Fields done, mallocs done, and the cells that are live.
 pub struct Tally {
     pub fields: u32,
     pub mallocs: u32,
+    pub live: u32,
 }
 
 impl Tally {
@@ -77,6 +78,7 @@ impl Tally {
         Tally {
             fields: 0,
             mallocs: 0,
+            live: 0,
         }
     }
 }
