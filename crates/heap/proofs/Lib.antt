@@ -2,4 +2,5 @@
 -- Assumes nothing.
 pub mod Front
 pub mod Along
+pub mod Counting
 pub mod Freed

@@ -1,3 +1,4 @@
 -- What the contracts of this crate name beside the rules.
 -- Assumes nothing.
 pub mod Boards
+pub mod Counts

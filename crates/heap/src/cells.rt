@@ -1,6 +1,10 @@
-// The lists of the cells: what freeing a cell and giving it out do to the words, and how many cells are live.
+// The lists of the cells: what freeing a cell and giving it out do to the words, to its status, and to the number of live cells.
 ghost use mathlib.Core.List.{map};
 ghost use mathlib.Core.Path.{_≡_};
+ghost use Prim.Native.Nat.{_+_, _-_, _≤_};
+ghost use lib.ListN.{length, set};
+ghost use Rattle.fields.specs.Limits.{cells};
+ghost use Rattle.heap.specs.Counts.{liveCells};
 ghost use Rattle.rules.specs.Effect.{changeOwn, changeWord};
 ghost use Rattle.rules.specs.Run.{liveCount};
 ghost use Rattle.rules.specs.Words.{afterFree, invalidated, unset};
@@ -46,16 +50,38 @@ pub fn unset_own(selectors: &mut [u16], cell: u16)
     set_word(selectors, at + 1, Heap::UNSET);
 }
 
-pub fn live_count(status: &[u8]) -> usize
-    ensures { λ r. ⌜ r ≡ liveCount (now (status .entry)) ⌝ }
+// The number of live cells without a cell that had this status.
+fn count_down(live: u32, was: u8) -> u32
+    requires { ⌜ liveCells was ≤ live ⌝ }
+    ensures { λ r. ⌜ r ≡ live - liveCells was ⌝ }
 {
-    let mut count: usize = 0;
-    let mut i: usize = 0;
-    while i < status.len() {
-        if status[i] == Heap::LIVE {
-            count += 1;
-        }
-        i += 1;
+    if was == Heap::LIVE {
+        return live - 1;
     }
-    count
+    live
+}
+
+// The number of live cells with a cell that gets this status, beside the others.
+fn count_up(others: u32, new: u8) -> u32
+    requires { ⌜ others ≤ cells ⌝ }
+    ensures { λ r. ⌜ r ≡ others + liveCells new ⌝ }
+{
+    if new == Heap::LIVE {
+        return others + 1;
+    }
+    others
+}
+
+// A cell's status changed, and the number of live cells brought along: no status is read but this one.
+pub fn change_status(status: &mut [u8], cell: usize, new: u8, live: u32) -> u32
+    requires { ⌜ (live ≡ liveCount (now status)) × (length (now status) ≤ cells) ⌝ }
+    ensures { λ r. ⌜ now (status .exit) ≡ set (now (status .entry)) cell new ⌝ }
+    ensures { λ r. ⌜ r ≡ liveCount (now (status .exit)) ⌝ }
+{
+    if cell < status.len() {
+        let others = count_down(live, status[cell]);
+        status[cell] = new;
+        return count_up(others, new);
+    }
+    live
 }

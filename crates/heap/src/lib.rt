@@ -4,8 +4,8 @@ mod cells;
 mod lists;
 mod words;
 
+pub use cells::change_status;
 pub use cells::invalidate_own;
-pub use cells::live_count;
 pub use cells::sweep;
 pub use cells::unset_own;
 pub use lists::copy_numbers;
@@ -15,7 +15,6 @@ pub use lists::fill_status;
 pub use lists::fill_words;
 pub use lists::number_at;
 pub use lists::set_number;
-pub use lists::set_status;
 pub use lists::set_word;
 pub use lists::status_at;
 pub use lists::word_at;

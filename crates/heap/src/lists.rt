@@ -50,14 +50,6 @@ pub fn set_number(numbers: &mut [u32], i: usize, number: u32)
     }
 }
 
-pub fn set_status(status: &mut [u8], i: usize, new: u8)
-    ensures { λ _. ⌜ now (status .exit) ≡ set (now (status .entry)) i new ⌝ }
-{
-    if i < status.len() {
-        status[i] = new;
-    }
-}
-
 pub fn fill_words(words: &mut [u16], word: u16)
     ensures { λ _. ⌜ now (words .exit) ≡ replicate (length (now (words .entry))) word ⌝ }
 {
