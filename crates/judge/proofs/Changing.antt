@@ -26,7 +26,7 @@ module _ (pointers pointers′ variables : List ℕ) (tally : Tally) where
       → numbers′ ≡ cond (eqb was neverUsed) (set numbers c d) numbers
       → status′ ≡ set status c live
       → pointers′ ≡ set pointers p c
-      → stateOf (boardOf pointers′ variables) (record { fields = tally .fields; mallocs = tally .mallocs + 1 }) selectors′ numbers′ status′ ≡ give p c d (stateOf (boardOf pointers variables) tally selectors numbers status)
+      → stateOf (boardOf pointers′ variables) (record { fields = tally .fields; mallocs = tally .mallocs + 1; live = tally .live }) selectors′ numbers′ status′ ≡ give p c d (stateOf (boardOf pointers variables) tally selectors numbers status)
   unfolding give
   give-join p c d was selectors selectors′ numbers numbers′ status status′ e₁ e₂ e₃ e₄ e₅ = rw (e₅, e₄, e₃, e₂, e₁)
 

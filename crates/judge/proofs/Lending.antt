@@ -6,7 +6,8 @@ use lib.Dec.{leb}
 use lib.ListN.{drop, length, replicate}
 use mathlib.Core.Bool.{Bool, true, false, _&&_, and-eq-true-iff}
 use mathlib.Core.List.{List, _++_}
-use mathlib.Core.Path.{_≡_, ap}
+use mathlib.Core.Path.{_≡_, _∙_, ap}
+use native.Mathlib.Omega.{arith}
 use Rattle.fields.specs.declared.Refusal.the-variants.{BufferTooShort, LogTooLong}
 use Rattle.fields.specs.Limits.{cells, logBytes, logFields}
 use Rattle.heap.specs.Boards.{withFront}
@@ -17,9 +18,10 @@ use Rattle.rules.specs.declared.Verdict.the-variants.{Refused}
 use Rattle.rules.specs.Judging.{Lent, judgeLog, judged, lent, longEnough, showing}
 use Rattle.rules.specs.Log.{runBytes}
 use Rattle.rules.specs.Run.{Outcome}
-use Rattle.rules.specs.State.{boardPointers, boardVariables, fresh, freshBoard, freshTally, heapSelectors, neverUsed, stateOf}
+use Rattle.rules.specs.State.{State, boardPointers, boardVariables, fresh, freshBoard, freshHeap, freshTally, heapSelectors, neverUsed, stateOf}
 use Rattle.rules.specs.Words.{unset}
 use Rattle.judge.specs.Judges.{LongEnough, shown}
+use Rattle.judge.specs.Steps.{Counts}
 
 -- ---- the sizes
 pub all-but-last : (a b c d e : Bool) → a ≡ true → b ≡ true → c ≡ true → d ≡ true → e ≡ (a && b && c && d && e)
@@ -50,15 +52,24 @@ pub filled : (s n t : List ℕ) (i j k : ℕ) → s ≡ replicate i unset → i 
 unfolding fresh
 filled s n t i j k e₁ h₁ e₂ h₂ e₃ h₃ = rw (e₁, h₁, e₂, h₂, e₃, h₃)
 
+-- no cell of it is live, as the fresh tally says
+pub fresh-counts : (s n t : List ℕ) → stateOf freshBoard freshTally s n t ≡ fresh → Counts freshTally t
+unfolding fresh
+fresh-counts s n t e =
+    let same : t ≡ freshHeap .status = ap (λ (x : State). x .status) e in
+    record { kept = rw same; few = rw same (omega arith) }
+
 -- ---- what is lent, once the run has ended and the board is copied out
 pub run-shown : (log p s v n t : List ℕ) (tally : Tally) → LongEnough p s v n t → (verdict : Verdict) (board : Board) (tally′ : Tally) (p′ s′ v′ n′ t′ : List ℕ)
-    → _≡_ {A = Outcome} (record { verdict = verdict; state = stateOf board tally′ s′ n′ t′ }) (runBytes logFields log fresh)
+    → _≡_ {A = Outcome} (record { verdict = verdict; state = stateOf board tally′ s′ n′ t′ }) (runBytes logFields log fresh) → Counts tally′ t′
     → p′ ≡ withFront boardPointers (board .pointers) p → v′ ≡ withFront boardVariables (board .variables) v
     → judged verdict (lent p′ (s′ ++ drop heapSelectors s) v′ (n′ ++ drop cells n) (t′ ++ drop cells t) tally′) ≡ shown log (lent p s v n t tally)
 unfolding shown
-run-shown log p s v n t tally fit verdict board tally′ p′ s′ v′ n′ t′ ran e f =
+run-shown log p s v n t tally fit verdict board tally′ p′ s′ v′ n′ t′ ran counts e f =
+    let left = showing (stateOf board tally′ s′ n′ t′) (lent p s v n t tally) in
     rw (e, f, le-leb boardPointers (length p) (fit .pointers-fit), le-leb boardVariables (length v) (fit .variables-fit))
-    (ap (λ (o : Outcome). judged (o .verdict) (showing (o .state) (lent p s v n t tally))) ran)
+    (ap (λ (live : ℕ). judged verdict (lent (left .pointers) (left .selectors) (left .variables) (left .numbers) (left .status) (record { fields = tally′ .fields; mallocs = tally′ .mallocs; live = live }))) (counts .kept)
+    ∙ ap (λ (o : Outcome). judged (o .verdict) (showing (o .state) (lent p s v n t tally))) ran)
 
 -- ---- the verdicts
 pub judged-too-long : (log : List ℕ) (l : Lent) → leb (length log) logBytes ≡ false → judged (Refused LogTooLong 0) l ≡ judgeLog log l

@@ -23,7 +23,6 @@ use Rattle.fields.specs.Rows.{isTag, lengthOf, rowOf}
 use Rattle.rules.proofs.Tallies.{counted}
 use Rattle.rules.specs.declared.Answer.{Answer}
 use Rattle.rules.specs.declared.Answer.the-variants.{Go, Race, Refuse}
-use Rattle.rules.specs.declared.Tally.{Tally}
 use Rattle.rules.specs.declared.Verdict.{Verdict}
 use Rattle.rules.specs.declared.Verdict.the-variants.{Accepted, Refused as RefusedAt}
 use Rattle.rules.specs.Check.{check}
@@ -128,9 +127,7 @@ module _ (l : List ℕ) (at : ℕ) (within : at < length l) where
     unfolding stepOf
     turn-got n = rw stepped (by-answer n (check (actOf f) s) ∙ sym (run-got n (drop at l) s f some-left read))
 
-    onward-by : (k : Answer) → Onward (nextAfter k (s .fields) f at) at (length l)
-        (record { fields = s .fields; mallocs = s .mallocs })
-        (record { fields = stateAfter k s (effect (actOf f) s) .fields; mallocs = stateAfter k s (effect (actOf f) s) .mallocs })
+    onward-by : (k : Answer) → Onward (nextAfter k (s .fields) f at) at (length l) s (stateAfter k s (effect (actOf f) s))
     onward-by Go =
         let fits = got-passed (drop at l) f read .fits in
         let count = counted (actOf f) s in
@@ -138,9 +135,7 @@ module _ (l : List ℕ) (at : ℕ) (within : at < length l) where
     onward-by (Race p) = tt
     onward-by (Refuse r) = tt
 
-    pub turn-onward : Onward (nextAfter (step .answer) (s .fields) f at) at (length l)
-        (record { fields = s .fields; mallocs = s .mallocs })
-        (record { fields = step .state .fields; mallocs = step .state .mallocs })
+    pub turn-onward : Onward (nextAfter (step .answer) (s .fields) f at) at (length l) s (step .state)
     unfolding stepOf
     turn-onward = rw stepped (onward-by (check (actOf f) s))
 
@@ -159,5 +154,5 @@ module _ (l : List ℕ) (at : ℕ) (within : at < length l) where
 pub loop-end : (l : List ℕ) (at : ℕ) (s : State) (o : Outcome) (n c : ℕ) → length l ≤ at → runFrom n (drop at l) s ≡ o → c ≡ liveCount (s .status) → _≡_ {A = Outcome} (record { verdict = Accepted (s .fields) (s .mallocs) c; state = s }) o
 loop-end l at s o n c past whole count = rw count (sym (run-none n s) ∙ (rw (drop-of-length-le l {i = at} past) at whole))
 
-pub onward-on : (x : Next) (b at end : ℕ) (t t′ : Tally) → x ≡ On b → Onward x at end t t′ → Onward (On b) at end t t′
+pub onward-on : (x : Next) (b at end : ℕ) (t t′ : State) → x ≡ On b → Onward x at end t t′ → Onward (On b) at end t t′
 onward-on x b at end t t′ e h = rw e at h

@@ -15,7 +15,6 @@ use Rattle.fields.specs.Read.{readField}
 use Rattle.fields.specs.Rows.{lengthOf}
 use Rattle.rules.specs.declared.Answer.{Answer}
 use Rattle.rules.specs.declared.Answer.the-variants.{Go, Race, Refuse}
-use Rattle.rules.specs.declared.Tally.{Tally}
 use Rattle.rules.specs.declared.Verdict.the-variants.{Raced, Refused}
 use Rattle.rules.specs.Log.{runBytes}
 use Rattle.rules.specs.Run.{Outcome}
@@ -44,7 +43,7 @@ followed n (On at) log s = runFrom n (drop at log) s
 followed n (Ended verdict) log s = record { verdict = verdict; state = s }
 
 -- going on, the place moves within the log, and one field is counted
-abbrev pub Onward : Next → ℕ → ℕ → Tally → Tally → Type 0
+abbrev pub Onward : Next → ℕ → ℕ → State → State → Type 0
 Onward (On next) at end before after = ((at < next) × (next ≤ end)) × ((after .fields ≡ before .fields + 1) × (after .mallocs ≤ before .mallocs + 1))
 Onward (Ended verdict) at end before after = Unit {0}
 

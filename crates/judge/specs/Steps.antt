@@ -1,15 +1,25 @@
 -- One field's step: its answer, and the state after it, which a stop leaves as it was.
 -- Assumes nothing.
-use Prim.Native.Nat.{ℕ}
+use Prim.Native.Nat.{ℕ, _≤_}
+use lib.ListN.{length}
 use mathlib.Core.List.{List}
+use mathlib.Core.Path.{_≡_}
+use Rattle.fields.specs.Limits.{cells}
 use Rattle.rules.specs.declared.Act.{Act}
 use Rattle.rules.specs.declared.Answer.{Answer}
 use Rattle.rules.specs.declared.Answer.the-variants.{Go, Race, Refuse}
 use Rattle.rules.specs.declared.Change.{Change}
+use Rattle.rules.specs.declared.Tally.{Tally}
 use Rattle.rules.specs.Check.{check}
 use Rattle.rules.specs.Effect.{apply, countField, effect}
+use Rattle.rules.specs.Run.{liveCount}
 use Rattle.rules.specs.State.{State, stateOf}
 use Rattle.judge.specs.declared.step.Stepped.{Stepped}
+
+-- the tally keeps the count of the statuses equal to 1; that there are no more statuses than cells keeps it within its type
+pub record Counts (tally : Tally) (status : List ℕ) : Type 0 where
+  pub kept : tally .live ≡ liveCount status
+  pub few : length status ≤ cells
 
 pub record Step : Type 0 where
   pub answer : Answer

@@ -6,6 +6,7 @@ ghost use lib.ListN.{drop, length};
 ghost use Rattle.fields.specs.Limits.{cells, logBytes, logFields};
 ghost use Rattle.judge.specs.Replays.{Carried, Copies, IsAccepted};
 ghost use Rattle.judge.specs.Runs.{runFrom};
+ghost use Rattle.judge.specs.Steps.{Counts};
 ghost use Rattle.rules.specs.Log.{runBytes};
 ghost use Rattle.rules.specs.Replay.{copyField, startingData, toReplayLog};
 ghost use Rattle.rules.specs.State.{fresh, heapSelectors, stateOf};
@@ -87,7 +88,9 @@ fn copy_at(
 ) -> Copied
     requires { ⌜ (at < length (now log)) × ((length (now log) ≤ logBytes) × (length (now log) ≤ length (now out))) ⌝ }
     requires { ⌜ (tally .fields < logFields) × (tally .mallocs ≤ tally .fields) ⌝ }
+    requires { ⌜ Counts tally (now status) ⌝ }
     ensures { λ r. ⌜ ((n : ℕ) → IsAccepted (runFrom (suc n) (drop at (now (log .entry))) (stateOf board tally (now (selectors .entry)) (now (numbers .entry)) (now (status .entry))) .verdict) → Carried n (now (log .entry)) at (stateOf board tally (now (selectors .entry)) (now (numbers .entry)) (now (status .entry))) (now (out .entry)) (r .at) (stateOf (r .board) (r .tally) (now (selectors .exit)) (now (numbers .exit)) (now (status .exit))) (now (out .exit))) ⌝ }
+    ensures { λ r. ⌜ Counts (r .tally) (now (status .exit)) ⌝ }
 {
     match read_field(&log[at..]) {
         Read::Got(field) => {

@@ -7,16 +7,17 @@ ghost use lib.Dec.{eqb};
 ghost use lib.ListN.{set};
 ghost use Rattle.fields.specs.Limits.{logFields};
 ghost use Rattle.heap.specs.Boards.{boardOf};
+ghost use Rattle.judge.specs.Steps.{Counts};
 ghost use Rattle.rules.specs.Acts.{dataPlaceIn, placeIn, valueIn};
 ghost use Rattle.rules.specs.Effect.{apply, changeOwn, free, give};
 ghost use Rattle.rules.specs.State.{datumIn, neverUsed, numberAt, numbersWith, pointersWith, selectorsWith, stateOf, variablesWith, wordIn};
 ghost use Rattle.rules.specs.Words.{unset};
 use heap::cell_of;
+use heap::change_status;
 use heap::invalidate_own;
 use heap::is_unset;
 use heap::number_at;
 use heap::set_number;
-use heap::set_status;
 use heap::set_word;
 use heap::status_at;
 use heap::sweep;
@@ -136,39 +137,62 @@ fn give_cell(
     numbers: &mut [u32],
     status: &mut [u8],
 ) -> Tally
-    requires { ⌜ tally .mallocs ≤ logFields ⌝ }
+    requires { ⌜ (tally .mallocs ≤ logFields) × Counts tally (now status) ⌝ }
     ensures { λ r. ⌜ ((variables : List ℕ) → stateOf (boardOf (now (pointers .exit)) variables) r (now (selectors .exit)) (now (numbers .exit)) (now (status .exit)) ≡ give p cell number (stateOf (boardOf (now (pointers .entry)) variables) tally (now (selectors .entry)) (now (numbers .entry)) (now (status .entry)))) ⌝ }
+    ensures { λ r. ⌜ Counts r (now (status .exit)) ⌝ }
 {
     let at = cell as usize;
     let was = status_at(status, at);
     renew(selectors, numbers, was, cell, number);
-    set_status(status, at, Heap::LIVE);
+    let live = change_status(status, at, Heap::LIVE, tally.live);
     set_word(pointers, p as usize, cell);
     Tally {
         fields: tally.fields,
         mallocs: tally.mallocs + 1,
+        live,
     }
 }
 
-// Numbers, data variables and tally are not touched by a free, so what is said holds whatever these are.
-fn free_cell(cell: u16, pointers: &mut [u16], selectors: &mut [u16], status: &mut [u8])
-    ensures { λ _. ⌜ ((tally : Tally) (variables numbers : List ℕ) → stateOf (boardOf (now (pointers .exit)) variables) tally (now (selectors .exit)) numbers (now (status .exit)) ≡ free cell (stateOf (boardOf (now (pointers .entry)) variables) tally (now (selectors .entry)) numbers (now (status .entry)))) ⌝ }
+// Numbers and data variables are not touched by a free, so what is said holds whatever these are.
+fn free_cell(
+    cell: u16,
+    tally: Tally,
+    pointers: &mut [u16],
+    selectors: &mut [u16],
+    status: &mut [u8],
+) -> Tally
+    requires { ⌜ Counts tally (now status) ⌝ }
+    ensures { λ r. ⌜ ((variables numbers : List ℕ) → stateOf (boardOf (now (pointers .exit)) variables) r (now (selectors .exit)) numbers (now (status .exit)) ≡ free cell (stateOf (boardOf (now (pointers .entry)) variables) tally (now (selectors .entry)) numbers (now (status .entry)))) ⌝ }
+    ensures { λ r. ⌜ Counts r (now (status .exit)) ⌝ }
 {
     sweep(pointers, cell);
     sweep(selectors, cell);
     invalidate_own(selectors, cell);
-    set_status(status, cell as usize, Heap::FREED);
+    let live = change_status(status, cell as usize, Heap::FREED, tally.live);
+    Tally {
+        fields: tally.fields,
+        mallocs: tally.mallocs,
+        live,
+    }
 }
 
 // The free of an unset pointer changes nothing.
-fn release(p: u8, pointers: &mut [u16], selectors: &mut [u16], status: &mut [u8])
-    ensures { λ _. ⌜ ((tally : Tally) (variables numbers : List ℕ) → stateOf (boardOf (now (pointers .exit)) variables) tally (now (selectors .exit)) numbers (now (status .exit)) ≡ apply (Change.Release p) (stateOf (boardOf (now (pointers .entry)) variables) tally (now (selectors .entry)) numbers (now (status .entry)))) ⌝ }
+fn release(
+    p: u8,
+    tally: Tally,
+    pointers: &mut [u16],
+    selectors: &mut [u16],
+    status: &mut [u8],
+) -> Tally
+    requires { ⌜ Counts tally (now status) ⌝ }
+    ensures { λ r. ⌜ ((variables numbers : List ℕ) → stateOf (boardOf (now (pointers .exit)) variables) r (now (selectors .exit)) numbers (now (status .exit)) ≡ apply (Change.Release p) (stateOf (boardOf (now (pointers .entry)) variables) tally (now (selectors .entry)) numbers (now (status .entry)))) ⌝ }
+    ensures { λ r. ⌜ Counts r (now (status .exit)) ⌝ }
 {
     let word = word_at(pointers, p as usize);
     if is_unset(word) {
-        return;
+        return tally;
     }
-    free_cell(cell_of(word), pointers, selectors, status);
+    free_cell(cell_of(word), tally, pointers, selectors, status)
 }
 
 // A copy takes the whole word, mark included.
@@ -199,8 +223,9 @@ pub fn apply_change(
     numbers: &mut [u32],
     status: &mut [u8],
 ) -> Tally
-    requires { ⌜ tally .mallocs ≤ logFields ⌝ }
+    requires { ⌜ (tally .mallocs ≤ logFields) × Counts tally (now status) ⌝ }
     ensures { λ r. ⌜ stateOf (boardOf (now (pointers .exit)) (now (variables .exit))) r (now (selectors .exit)) (now (numbers .exit)) (now (status .exit)) ≡ apply change (stateOf (boardOf (now (pointers .entry)) (now (variables .entry))) tally (now (selectors .entry)) (now (numbers .entry)) (now (status .entry))) ⌝ }
+    ensures { λ r. ⌜ Counts r (now (status .exit)) ⌝ }
 {
     match change {
         Change::Stay => tally,
@@ -214,10 +239,7 @@ pub fn apply_change(
             numbers,
             status,
         ),
-        Change::Release(p) => {
-            release(p, pointers, selectors, status);
-            tally
-        }
+        Change::Release(p) => release(p, tally, pointers, selectors, status),
         Change::Move(to, from) => {
             move_word(to, from, pointers, selectors);
             tally

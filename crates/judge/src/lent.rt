@@ -5,6 +5,7 @@ ghost use lib.ListN.{length};
 ghost use Rattle.fields.specs.Limits.{cells, logBytes, logFields};
 ghost use Rattle.judge.specs.Judges.{Judges, LongEnough, shown};
 ghost use Rattle.judge.specs.Runs.{ranTo};
+ghost use Rattle.judge.specs.Steps.{Counts};
 ghost use Rattle.rules.specs.Judging.{judged, lent, longEnough};
 ghost use Rattle.rules.specs.Log.{runBytes};
 ghost use Rattle.rules.specs.State.{fresh, freshBoard, freshTally, heapSelectors, stateOf};
@@ -61,6 +62,7 @@ fn run_fresh(log: &[u8], selectors: &mut [u16], numbers: &mut [u32], status: &mu
     requires { ⌜ length (now log) ≤ logBytes ⌝ }
     requires { ⌜ (length (now selectors) ≡ heapSelectors) × ((length (now numbers) ≡ cells) × (length (now status) ≡ cells)) ⌝ }
     ensures { λ r. ⌜ ranTo r (now (selectors .exit)) (now (numbers .exit)) (now (status .exit)) ≡ runBytes logFields (now (log .entry)) fresh ⌝ }
+    ensures { λ r. ⌜ Counts (r .tally) (now (status .exit)) ⌝ }
 {
     refresh(selectors, numbers, status);
     run(log, selectors, numbers, status)

@@ -2,8 +2,9 @@
 ghost use mathlib.Core.Path.{_≡_};
 ghost use Prim.Native.Nat.{_<_, _≤_};
 ghost use lib.ListN.{drop, length};
-ghost use Rattle.fields.specs.Limits.{cells, logBytes, logFields};
+ghost use Rattle.fields.specs.Limits.{logBytes, logFields};
 ghost use Rattle.judge.specs.Runs.{nextAfter, ranTo, readAfter};
+ghost use Rattle.judge.specs.Steps.{Counts};
 ghost use Rattle.rules.specs.Log.{runBytes};
 ghost use Rattle.rules.specs.State.{freshBoard, freshTally, stateOf};
 use super::step::step;
@@ -13,7 +14,6 @@ use fields::Read;
 use fields::Refusal;
 use fields::read_field;
 use fields::value_length;
-use heap::live_count;
 use rules::Answer;
 use rules::Board;
 use rules::Tally;
@@ -66,8 +66,9 @@ fn read_at(log: &[u8], at: usize, fields: u32) -> Read
 // The board is taken back from the step at once and in one place: between a board handed over and one taken back nothing is copied
 // but the board itself.
 pub fn run(log: &[u8], selectors: &mut [u16], numbers: &mut [u32], status: &mut [u8]) -> Ran
-    requires { ⌜ (length (now log) ≤ logBytes) × (length (now status) ≤ cells) ⌝ }
+    requires { ⌜ (length (now log) ≤ logBytes) × Counts freshTally (now status) ⌝ }
     ensures { λ r. ⌜ ranTo r (now (selectors .exit)) (now (numbers .exit)) (now (status .exit)) ≡ runBytes logFields (now (log .entry)) (stateOf freshBoard freshTally (now (selectors .entry)) (now (numbers .entry)) (now (status .entry))) ⌝ }
+    ensures { λ r. ⌜ Counts (r .tally) (now (status .exit)) ⌝ }
 {
     let mut board = Board::fresh();
     let mut tally = Tally::fresh();
@@ -94,9 +95,8 @@ pub fn run(log: &[u8], selectors: &mut [u16], numbers: &mut [u32], status: &mut 
             }
         }
     }
-    let live = live_count(status) as u32;
     ended(
-        Verdict::Accepted(tally.fields, tally.mallocs, live),
+        Verdict::Accepted(tally.fields, tally.mallocs, tally.live),
         board,
         tally,
     )

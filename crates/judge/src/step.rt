@@ -3,7 +3,7 @@ ghost use mathlib.Core.Path.{_≡_};
 ghost use Prim.Native.Nat.{_+_, _≤_};
 ghost use Rattle.fields.specs.Limits.{logFields};
 ghost use Rattle.heap.specs.Boards.{boardOf};
-ghost use Rattle.judge.specs.Steps.{changedBy, stepOf, stepped};
+ghost use Rattle.judge.specs.Steps.{Counts, changedBy, stepOf, stepped};
 ghost use Rattle.rules.specs.Commands.{actOf};
 ghost use Rattle.rules.specs.State.{stateOf};
 use super::acts::act_of;
@@ -23,11 +23,12 @@ pub struct Stepped {
 
 fn count_field(tally: Tally) -> Tally
     requires { ⌜ tally .fields ≤ logFields ⌝ }
-    ensures { λ r. ⌜ r ≡ record { fields = tally .fields + 1; mallocs = tally .mallocs } ⌝ }
+    ensures { λ r. ⌜ r ≡ record { fields = tally .fields + 1; mallocs = tally .mallocs; live = tally .live } ⌝ }
 {
     Tally {
         fields: tally.fields + 1,
         mallocs: tally.mallocs,
+        live: tally.live,
     }
 }
 
@@ -43,7 +44,9 @@ fn follow(
     status: &mut [u8],
 ) -> Tally
     requires { ⌜ (tally .fields ≤ logFields) × (tally .mallocs ≤ logFields) ⌝ }
+    requires { ⌜ Counts tally (now status) ⌝ }
     ensures { λ r. ⌜ stateOf (boardOf (now (pointers .exit)) (now (variables .exit))) r (now (selectors .exit)) (now (numbers .exit)) (now (status .exit)) ≡ changedBy answer change (stateOf (boardOf (now (pointers .entry)) (now (variables .entry))) tally (now (selectors .entry)) (now (numbers .entry)) (now (status .entry))) ⌝ }
+    ensures { λ r. ⌜ Counts r (now (status .exit)) ⌝ }
 {
     match answer {
         Answer::Go => {
@@ -74,7 +77,9 @@ pub fn step(
     status: &mut [u8],
 ) -> Stepped
     requires { ⌜ (tally .fields ≤ logFields) × (tally .mallocs ≤ logFields) ⌝ }
+    requires { ⌜ Counts tally (now status) ⌝ }
     ensures { λ r. ⌜ stepped r (now (selectors .exit)) (now (numbers .exit)) (now (status .exit)) ≡ stepOf (actOf field) (stateOf board tally (now (selectors .entry)) (now (numbers .entry)) (now (status .entry))) ⌝ }
+    ensures { λ r. ⌜ Counts (r .tally) (now (status .exit)) ⌝ }
 {
     let act = act_of(field);
     let change = act.change;

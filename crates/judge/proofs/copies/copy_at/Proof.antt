@@ -41,7 +41,9 @@ write-field-requires : tie.Need-write-field-requires
 write-field-requires c κs = search needs
 
 step-requires : tie.Need-step-requires
-step-requires c κs = omega (arith, c .before .before .before .before .before .before .before .before .before .before .before .before .before .before .before .before .before .before .before .before .before .pre .1 .0, c .before .before .before .before .before .before .before .before .before .before .before .before .before .before .before .before .before .before .before .before .before .pre .1 .1)
+step-requires c κs =
+    let start = c .before .before .before .before .before .before .before .before .before .before .before .before .before .before .before .before .before .before .before .before .before in
+    (omega (arith, start .pre .1 .0 .0, start .pre .1 .0 .1), start .pre .1 .1)
 
 value-length-requires : tie.Need-value-length-requires
 value-length-requires c κs = search needs
@@ -78,14 +80,14 @@ returns c =
     let got = c .before .before .before .before .before .before .before .before .before .before .before .before .before .before .before .before .before .before .before .before .before .before .field .given in
     let read = sym (c .before .before .before .before .before .before .before .before .before .before .before .before .before .before .before .before .before .before .before .before .before .before .before .before .read-field .ensures) ∙ got .1 in
     let copied = c .before .before .before .before .before .before .before .before .before .before .before .before .before .before .before .before .before .copy-of .ensures (a .board) (a .tally) (a .selectors .now) in
-    λ n accepted. rw (c .value-length .ensures) (copy-got (a .log .now) (a .at) (start .pre .0 .0) s (got .0 .0) read _ (c .before .before .before .before .before .before .before .before .before .step .ensures) (a .out .now) (start .pre .0 .1 .1) _ copied _ _ (c .before .before .before .before .before .before .before .before .before .before .before .before .before .before .before .write-field .ensures) n accepted)
+    (λ n accepted. rw (c .value-length .ensures) (copy-got (a .log .now) (a .at) (start .pre .0 .0) s (got .0 .0) read _ (c .before .before .before .before .before .before .before .before .before .step .ensures .0) (a .out .now) (start .pre .0 .1 .1) _ copied _ _ (c .before .before .before .before .before .before .before .before .before .before .before .before .before .before .before .write-field .ensures) n accepted), c .before .before .before .before .before .before .before .before .before .step .ensures .1)
 
 returns-2 : tie.Need-returns-2
 returns-2 c =
     let start = c .before .before .before .before .before .before .before .before .before in
     let a = start .args in
     let s = stateOf (a .board) (a .tally) (a .selectors .now) (a .numbers .now) (a .status .now) in
-    λ n accepted. absurd (copy-refused (a .log .now) (a .at) (start .pre .0 .0) s n _ (sym (c .before .before .read-field .ensures) ∙ c .enum-told .given .1) accepted)
+    (λ n accepted. absurd (copy-refused (a .log .now) (a .at) (start .pre .0 .0) s n _ (sym (c .before .before .read-field .ensures) ∙ c .enum-told .given .1) accepted), start .pre .1 .1)
 
 pub copy-at-spec : {M : Type 1} → statement M
 copy-at-spec =

@@ -1,6 +1,8 @@
 -- `judge::copies::copy_log` meets its contract. The invariant: going on from what is held gives what the whole log gives.
 use Prim.Native.Nat.{_-_}
 use Rattle.judge.proofs.Copied.{Underway, all-copied, carried, fields-left, underway-on, underway-start}
+use Rattle.judge.proofs.Lending.{fresh-counts}
+use Rattle.judge.specs.Steps.{Counts}
 use Rattle.rules.specs.State.{stateOf}
 use borrow.Author.Needs.{needs}
 use lib.ListN.{length}
@@ -13,6 +15,7 @@ abbrev Inv-loop : tie.InvT-loop
 Inv-loop log out₀ selectors₀ numbers₀ status₀ board₀ tally₀ at₀ out selectors numbers status board tally at =
     ((length out ≡ length out₀) × ((length selectors ≡ length selectors₀) × ((length numbers ≡ length numbers₀) × (length status ≡ length status₀))))
     × Underway log out₀ at (stateOf board tally selectors numbers status) out
+    × Counts tally status
 
 abbrev μ-loop : tie.MeasureT-loop
 μ-loop log out₀ selectors₀ numbers₀ status₀ board₀ tally₀ at₀ out selectors numbers status board tally at = length log - at
@@ -27,21 +30,25 @@ fresh-requires-2 : tie.Need-fresh-requires-2 Inv-loop μ-loop
 fresh-requires-2 c κs = search needs
 
 loop-holds : tie.Need-loop-holds Inv-loop μ-loop
-loop-holds c = ((refl, (refl, (refl, refl))), underway-start (c .before .before .before .before .before .before .before .before .before .before .before .before .before .before .before .before .before .args .log .now) (c .before .before .before .before .before .before .before .before .before .before .before .before .before .before .before .before .before .args .out .now) _ (rw (c .fresh2 .ensures, c .before .fresh .ensures) (c .before .before .before .before .before .before .before .before .refresh .ensures)))
+loop-holds c =
+    let a = c .before .before .before .before .before .before .before .before .before .before .before .before .before .before .before .before .before .args in
+    let refreshed = c .before .before .before .before .before .before .before .before .refresh .ensures in
+    rw (c .fresh2 .ensures, c .before .fresh .ensures)
+    ((refl, (refl, (refl, refl))), underway-start (a .log .now) (a .out .now) _ refreshed, fresh-counts _ _ _ refreshed)
 
 copy-at-requires : tie.Need-copy-at-requires Inv-loop μ-loop
 copy-at-requires c κs =
     let h = c .before .before .before .before .before .loop in
     let start = c .before .before .before .before .before .before .before .before .before .before .before .before .before .before .before .before .before .before .before .before .before .before .before in
     let s = stateOf (h .board) (h .tally) (h .selectors) (h .numbers) (h .status) in
-    ((c .before .before .before .before .loop-test .taken, (start .pre .0 .0, omega (arith, start .pre .0 .1, h .inv .0 .0))), (fields-left (start .args .log .now) (start .args .out .now) (start .pre .1 .1) (h .at) s (h .out) (h .inv .1) (c .before .before .before .before .loop-test .taken), h .inv .1 .mallocs))
+    ((c .before .before .before .before .loop-test .taken, (start .pre .0 .0, omega (arith, start .pre .0 .1, h .inv .0 .0))), ((fields-left (start .args .log .now) (start .args .out .now) (start .pre .1 .1) (h .at) s (h .out) (h .inv .1) (c .before .before .before .before .loop-test .taken), h .inv .1 .mallocs), h .inv .2))
 
 loop-less : tie.Need-loop-less Inv-loop μ-loop
 loop-less c =
     let h = c .before .before .before .before .before .before .before .before .before .before .before .before .before .before .before .before .loop in
     let start = c .before .before .before .before .before .before .before .before .before .before .before .before .before .before .before .before .before .before .before .before .before .before .before .before .before .before .before .before .before .before .before .before .before .before in
     let s = stateOf (h .board) (h .tally) (h .selectors) (h .numbers) (h .status) in
-    let t = carried (start .args .log .now) (start .args .out .now) (start .pre .1 .1) (h .at) s (h .out) (h .inv .1) (c .before .before .before .before .before .before .before .before .before .before .before .before .before .before .before .loop-test .taken) _ _ _ (c .before .before .before .before .before .before .before .before .before .before .copy-at .ensures) in
+    let t = carried (start .args .log .now) (start .args .out .now) (start .pre .1 .1) (h .at) s (h .out) (h .inv .1) (c .before .before .before .before .before .before .before .before .before .before .before .before .before .before .before .loop-test .taken) _ _ _ (c .before .before .before .before .before .before .before .before .before .before .copy-at .ensures .0) in
     omega (arith, t .further, t .within)
 
 loop-again : tie.Need-loop-again Inv-loop μ-loop
@@ -49,7 +56,7 @@ loop-again c =
     let h = c .before .before .before .before .before .before .before .before .before .before .before .before .before .before .before .before .loop in
     let start = c .before .before .before .before .before .before .before .before .before .before .before .before .before .before .before .before .before .before .before .before .before .before .before .before .before .before .before .before .before .before .before .before .before .before in
     let s = stateOf (h .board) (h .tally) (h .selectors) (h .numbers) (h .status) in
-    (search needs, underway-on (start .args .log .now) (start .args .out .now) (start .pre .1 .1) (h .at) s (h .out) (h .inv .1) (c .before .before .before .before .before .before .before .before .before .before .before .before .before .before .before .loop-test .taken) _ _ _ (c .before .before .before .before .before .before .before .before .before .before .copy-at .ensures))
+    (search needs, underway-on (start .args .log .now) (start .args .out .now) (start .pre .1 .1) (h .at) s (h .out) (h .inv .1) (c .before .before .before .before .before .before .before .before .before .before .before .before .before .before .before .loop-test .taken) _ _ _ (c .before .before .before .before .before .before .before .before .before .before .copy-at .ensures .0), c .before .before .before .before .before .before .before .before .before .before .copy-at .ensures .1)
 
 same-length : tie.Need-same-length Inv-loop μ-loop
 same-length c = search needs

@@ -10,13 +10,13 @@ enum-known-change : tie.Need-enum-known-change
 enum-known-change c = search needs
 
 give-cell-requires : tie.Need-give-cell-requires
-give-cell-requires c κs = search needs
+give-cell-requires c κs = c .before .before .before .before .before .before .before .before .before .before .before .before .pre
 
 enum-known-change-2 : tie.Need-enum-known-change-2
 enum-known-change-2 c = search needs
 
 release-requires : tie.Need-release-requires
-release-requires c κs = search needs
+release-requires c κs = c .before .before .before .before .before .before .before .before .before .before .before .pre .1
 
 enum-known-change-3 : tie.Need-enum-known-change-3
 enum-known-change-3 c = search needs
@@ -31,7 +31,7 @@ put-number-requires : tie.Need-put-number-requires
 put-number-requires c κs = search needs
 
 returns : tie.Need-returns
-returns c = rw (c .enum-told .given .1)
+returns c = (rw (c .enum-told .given .1), c .before .before .before .before .before .before .before .pre .1)
 
 same-length : tie.Need-same-length
 same-length c = search needs
@@ -46,7 +46,9 @@ same-length-4 : tie.Need-same-length-4
 same-length-4 c = search needs
 
 returns-2 : tie.Need-returns-2
-returns-2 c = rw (c .before .before .before .before .before .before .before .before .before .before .before .before .before .before .change .given .1) (c .before .before .before .before .before .before .before .before .give-cell .ensures (c .before .before .before .before .before .before .before .before .before .before .before .before .before .before .before .before .before .before .before .before .before .args .variables .now))
+returns-2 c =
+    let given = c .before .before .before .before .before .before .before .before .give-cell .ensures in
+    (rw (c .before .before .before .before .before .before .before .before .before .before .before .before .before .before .change .given .1) (given .0 (c .before .before .before .before .before .before .before .before .before .before .before .before .before .before .before .before .before .before .before .before .before .args .variables .now)), given .1)
 
 same-length-5 : tie.Need-same-length-5
 same-length-5 c = search needs
@@ -60,7 +62,8 @@ same-length-7 c = search needs
 returns-3 : tie.Need-returns-3
 returns-3 c =
     let a = c .before .before .before .before .before .before .before .before .before .before .before .before .before .before .before .before .before .before .args in
-    rw (c .before .before .before .before .before .before .before .before .before .before .before .change2 .given .1) (c .before .before .before .before .before .before .release .ensures (a .tally) (a .variables .now) (a .numbers .now))
+    let released = c .before .before .before .before .before .before .release .ensures in
+    (rw (c .before .before .before .before .before .before .before .before .before .before .before .change2 .given .1) (released .0 (a .variables .now) (a .numbers .now)), released .1)
 
 same-length-8 : tie.Need-same-length-8
 same-length-8 c = search needs
@@ -71,7 +74,7 @@ same-length-9 c = search needs
 returns-4 : tie.Need-returns-4
 returns-4 c =
     let a = c .before .before .before .before .before .before .before .before .before .before .before .before .before .before .before .args in
-    rw (c .before .before .before .before .before .before .before .before .change3 .given .1) (c .before .before .before .before .move-word .ensures (a .tally) (a .variables .now) (a .numbers .now) (a .status .now))
+    (rw (c .before .before .before .before .before .before .before .before .change3 .given .1) (c .before .before .before .before .move-word .ensures (a .tally) (a .variables .now) (a .numbers .now) (a .status .now)), c .before .before .before .before .before .before .before .before .before .before .before .before .before .before .before .pre .1)
 
 same-length-10 : tie.Need-same-length-10
 same-length-10 c = search needs
@@ -85,7 +88,7 @@ same-length-12 c = search needs
 returns-5 : tie.Need-returns-5
 returns-5 c =
     let a = c .before .before .before .before .before .before .before .before .before .before .before .before .before .before .before .before .args in
-    rw (c .before .before .before .before .before .before .before .before .before .change4 .given .1) (c .before .before .before .before .put-number .ensures (a .tally) (a .selectors .now) (a .status .now))
+    (rw (c .before .before .before .before .before .before .before .before .before .change4 .given .1) (c .before .before .before .before .put-number .ensures (a .tally) (a .selectors .now) (a .status .now)), c .before .before .before .before .before .before .before .before .before .before .before .before .before .before .before .before .pre .1)
 
 pub apply-change-spec : {M : Type 1} → statement M
 apply-change-spec =

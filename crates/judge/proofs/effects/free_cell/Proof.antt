@@ -13,8 +13,8 @@ sweep-requires-2 c κs = search needs
 invalidate-own-requires : tie.Need-invalidate-own-requires
 invalidate-own-requires c κs = search needs
 
-set-status-requires : tie.Need-set-status-requires
-set-status-requires c κs = search needs
+change-status-requires : tie.Need-change-status-requires
+change-status-requires c κs = (c .before .before .before .before .before .before .before .before .before .before .before .before .before .before .before .before .pre .kept, c .before .before .before .before .before .before .before .before .before .before .before .before .before .before .before .before .pre .few)
 
 same-length : tie.Need-same-length
 same-length c = search needs
@@ -27,10 +27,14 @@ same-length-3 c = search needs
 
 returns : tie.Need-returns
 returns c =
-    λ tally variables numbers.
-    let a = c .before .before .before .before .before .before .before .before .before .before .before .before .before .before .before .before .before .before .before .args in
-    free-join (a .pointers .now) _ variables tally _ (a .selectors .now) _ _ numbers (a .status .now) _
-    (c .before .before .before .before .before .before .before .before .before .before .sweep2 .ensures) (c .before .before .before .before .before .before .invalidate-own .ensures) (c .before .before .set-status .ensures) (c .before .before .before .before .before .before .before .before .before .before .before .before .before .before .sweep .ensures)
+    let start = c .before .before .before .before .before .before .before .before .before .before .before .before .before .before .before .before .before .before .before in
+    let a = start .args in
+    let changed = c .before .before .change-status .ensures in (
+      λ variables numbers.
+          free-join (a .pointers .now) _ variables (a .tally) _ (a .selectors .now) _ _ numbers (a .status .now) _
+          (c .before .before .before .before .before .before .before .before .before .before .sweep2 .ensures) (c .before .before .before .before .before .before .invalidate-own .ensures) (changed .0) (c .before .before .before .before .before .before .before .before .before .before .before .before .before .before .sweep .ensures),
+      record { kept = changed .1; few = search (needs, start .pre .few) },
+    )
 
 pub free-cell-spec : {M : Type 1} → statement M
 free-cell-spec =
@@ -39,7 +43,7 @@ free-cell-spec =
     sweep-requires
     sweep-requires-2
     invalidate-own-requires
-    set-status-requires
+    change-status-requires
     same-length
     same-length-2
     same-length-3

@@ -10,14 +10,14 @@ status-at-requires c κs = search needs
 renew-requires : tie.Need-renew-requires
 renew-requires c κs = search needs
 
-set-status-requires : tie.Need-set-status-requires
-set-status-requires c κs = search needs
+change-status-requires : tie.Need-change-status-requires
+change-status-requires c κs = (c .before .before .before .before .before .before .before .before .before .before .before .before .before .before .pre .1 .kept, c .before .before .before .before .before .before .before .before .before .before .before .before .before .before .pre .1 .few)
 
 set-word-requires : tie.Need-set-word-requires
 set-word-requires c κs = search needs
 
-add-t23 : tie.Need-add-t23
-add-t23 c = search needs
+add-t24 : tie.Need-add-t24
+add-t24 c = search needs
 
 same-length : tie.Need-same-length
 same-length c = search needs
@@ -33,10 +33,14 @@ same-length-4 c = search needs
 
 returns : tie.Need-returns
 returns c =
-    λ variables.
-    let a = c .before .before .before .before .before .before .before .before .before .before .before .before .before .before .before .before .before .before .before .before .before .before .args in
-    give-join (a .pointers .now) _ variables (a .tally) _ _ _ _ (a .selectors .now) _ (a .numbers .now) _ (a .status .now) _
-    (c .before .before .before .before .before .before .before .before .before .before .before .before .before .before .before .before .status-at .ensures) (c .before .before .before .before .before .before .before .before .before .before .before .before .before .renew .ensures .0) (c .before .before .before .before .before .before .before .before .before .before .before .before .before .renew .ensures .1) (c .before .before .before .before .before .before .before .set-status .ensures) (c .before .before .before .set-word .ensures)
+    let start = c .before .before .before .before .before .before .before .before .before .before .before .before .before .before .before .before .before .before .before .before .before .before in
+    let a = start .args in
+    let changed = c .before .before .before .before .before .before .before .change-status .ensures in (
+      λ variables.
+          give-join (a .pointers .now) _ variables (a .tally) _ _ _ _ (a .selectors .now) _ (a .numbers .now) _ (a .status .now) _
+          (c .before .before .before .before .before .before .before .before .before .before .before .before .before .before .before .before .status-at .ensures) (c .before .before .before .before .before .before .before .before .before .before .before .before .before .renew .ensures .0) (c .before .before .before .before .before .before .before .before .before .before .before .before .before .renew .ensures .1) (changed .0) (c .before .before .before .set-word .ensures),
+      record { kept = changed .1; few = search (needs, start .pre .1 .few) },
+    )
 
 pub give-cell-spec : {M : Type 1} → statement M
 give-cell-spec =
@@ -44,9 +48,9 @@ give-cell-spec =
     (tie.spec
     status-at-requires
     renew-requires
-    set-status-requires
+    change-status-requires
     set-word-requires
-    add-t23
+    add-t24
     same-length
     same-length-2
     same-length-3

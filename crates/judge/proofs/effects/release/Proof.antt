@@ -16,13 +16,13 @@ same-length c = search needs
 returns : tie.Need-returns
 returns c =
     let unset = sym (c .before .is-unset .ensures) ∙ c .if1 .taken in
-    λ tally variables numbers. rw (← (c .before .before .word-at .ensures), unset)
+    (λ variables numbers. rw (← (c .before .before .word-at .ensures), unset), c .before .before .before .before .before .before .before .pre)
 
 cell-of-requires : tie.Need-cell-of-requires
 cell-of-requires c κs = search needs
 
 free-cell-requires : tie.Need-free-cell-requires
-free-cell-requires c κs = search needs
+free-cell-requires c κs = c .before .before .before .before .before .before .before .before .before .before .before .pre
 
 same-length-2 : tie.Need-same-length-2
 same-length-2 c = search needs
@@ -38,7 +38,8 @@ returns-2 c =
     let word = c .before .before .before .before .before .before .before .before .before .before .before .before .before .word-at .ensures in
     let points = sym (c .before .before .before .before .before .before .before .before .before .before .before .before .is-unset .ensures) ∙ c .before .before .before .before .before .before .before .before .before .before .before .if1 .left in
     let cell = c .before .before .before .before .before .before .before .before .before .before .cell-of .ensures in
-    λ tally variables numbers. rw (← word, points, ← cell) (c .before .before .before .before .before .before .free-cell .ensures tally variables numbers)
+    let freed = c .before .before .before .before .before .before .free-cell .ensures in
+    (λ variables numbers. rw (← word, points, ← cell) (freed .0 variables numbers), freed .1)
 
 pub release-spec : {M : Type 1} → statement M
 release-spec =

@@ -1,5 +1,6 @@
 -- `judge::lent::run_fresh` meets its contract.
 use Rattle.fields.specs.Limits.{logFields}
+use Rattle.judge.proofs.Lending.{fresh-counts}
 use Rattle.rules.specs.Log.{runBytes}
 use borrow.Author.Needs.{needs}
 use mathlib.Core.Path.{_∙_, ap}
@@ -10,7 +11,7 @@ refresh-requires : tie.Need-refresh-requires
 refresh-requires c κs = search needs
 
 run-requires : tie.Need-run-requires
-run-requires c κs = search needs
+run-requires c κs = (c .before .before .before .before .before .before .before .before .before .before .before .before .before .before .before .before .before .pre .0, fresh-counts _ _ _ (c .before .before .before .before .before .before .before .before .before .refresh .ensures))
 
 same-length : tie.Need-same-length
 same-length c = search needs
@@ -22,7 +23,7 @@ same-length-3 : tie.Need-same-length-3
 same-length-3 c = search needs
 
 returns : tie.Need-returns
-returns c = c .before .before .before .before .before .before .run .ensures ∙ ap (runBytes logFields (c .before .before .before .before .before .before .before .before .before .before .before .before .before .before .before .before .before .before .before .before .before .before .before .before .args .log .now)) (c .before .before .before .before .before .before .before .before .before .before .before .before .before .before .before .before .refresh .ensures)
+returns c = (c .before .before .before .before .before .before .run .ensures .0 ∙ ap (runBytes logFields (c .before .before .before .before .before .before .before .before .before .before .before .before .before .before .before .before .before .before .before .before .before .before .before .before .args .log .now)) (c .before .before .before .before .before .before .before .before .before .before .before .before .before .before .before .before .refresh .ensures), c .before .before .before .before .before .before .run .ensures .1)
 
 pub run-fresh-spec : {M : Type 1} → statement M
 run-fresh-spec =

@@ -63,7 +63,7 @@ returns c =
     let ran = c .before .before .before .before .before .before .before .before .before .before .before .before .before .before .before .before .before .before .run-fresh in
     let words = c .before .before .before .before .before .before .before .copy-words .ensures in
     let values = c .before .before .before .copy-numbers .ensures in
-    λ tally. run-shown (a .log .now) (a .pointers .now) (a .selectors .now) (a .variables .now) (a .numbers .now) (a .status .now) tally (start .pre .1) _ (ran .result .board) _ _ _ _ _ _ (ran .ensures) words values
+    λ tally. run-shown (a .log .now) (a .pointers .now) (a .selectors .now) (a .variables .now) (a .numbers .now) (a .status .now) tally (start .pre .1) _ (ran .result .board) _ _ _ _ _ _ (ran .ensures .0) (ran .ensures .1) words values
 
 pub run-lent-spec : {M : Type 1} → statement M
 run-lent-spec =

@@ -1,8 +1,9 @@
--- `judge::run::run` meets its contract. The invariant: the run of what is left, from what is held, gives what the whole run gives.
+-- `judge::run::run` meets its contract. The invariant: the run of what is left, from what is held, gives what the whole run gives, and the tally
+-- keeps the count of the live cells.
 use Prim.Native.Nat.{_-_, _≤_}
 use Rattle.judge.proofs.Running.{loop-end, loop-ended, loop-on, loop-stopped, onward-on, read-got, run-opened, turn-got, turn-onward}
 use Rattle.judge.specs.Runs.{runFrom}
-use Rattle.rules.proofs.Tallies.{live-at-most}
+use Rattle.judge.specs.Steps.{Counts}
 use Rattle.rules.specs.State.{freshBoard, freshTally, stateOf}
 use borrow.Author.Needs.{needs}
 use lib.ListN.{drop, length}
@@ -16,6 +17,7 @@ Inv-loop log selectors₀ numbers₀ status₀ board₀ tally₀ at₀ selectors
     ((at ≤ length log) × ((length selectors ≡ length selectors₀) × ((length numbers ≡ length numbers₀) × (length status ≡ length status₀))))
     × (((tally .fields ≤ 4096) × (tally .mallocs ≤ tally .fields))
     × (runFrom (4096 - tally .fields) (drop at log) (stateOf board tally selectors numbers status) ≡ runFrom 4096 log (stateOf freshBoard freshTally selectors₀ numbers₀ status₀)))
+    × Counts tally status
 
 abbrev μ-loop : tie.MeasureT-loop
 μ-loop log selectors₀ numbers₀ status₀ board₀ tally₀ at₀ selectors numbers status board tally at = length log - at
@@ -27,7 +29,7 @@ fresh-requires-2 : tie.Need-fresh-requires-2 Inv-loop μ-loop
 fresh-requires-2 c κs = search needs
 
 loop-holds : tie.Need-loop-holds Inv-loop μ-loop
-loop-holds c = rw (c .fresh2 .ensures, c .before .fresh .ensures) ((omega arith, (refl, (refl, refl))), ((omega arith, omega arith), refl))
+loop-holds c = rw (c .fresh2 .ensures, c .before .fresh .ensures) ((omega arith, (refl, (refl, refl))), ((omega arith, omega arith), refl), c .before .before .before .before .before .before .pre .1)
 
 read-at-requires : tie.Need-read-at-requires Inv-loop μ-loop
 read-at-requires c κs = c .loop-test .taken
@@ -37,8 +39,8 @@ enum-known-field c = search needs
 
 step-requires : tie.Need-step-requires Inv-loop μ-loop
 step-requires c κs =
-    let h = c .before .before .before .before .before .before .before .before .loop .inv .1 .0 in
-    (h .0, omega (arith, h .0, h .1))
+    let h = c .before .before .before .before .before .before .before .before .loop .inv in
+    ((h .1 .0 .0, omega (arith, h .1 .0 .0, h .1 .0 .1)), h .2)
 
 next-after-requires : tie.Need-next-after-requires Inv-loop μ-loop
 next-after-requires c κs = omega (arith, c .before .before .before .before .before .before .before .before .before .before .before .before .before .before .before .before .loop-test .taken, c .before .before .before .before .before .before .before .before .before .before .before .before .before .before .before .before .before .before .before .before .before .before .before .before .pre .0)
@@ -54,9 +56,9 @@ loop-less c =
     let within = c .before .before .before .before .before .before .before .before .before .before .before .before .before .before .before .before .before .before .before .before .loop-test .taken in
     let got = c .before .before .before .before .before .before .before .before .before .before .before .before .before .before .before .before .before .field .given in
     let read = read-got (h .tally .fields) (drop (h .at) log) (got .0 .0) (sym (c .before .before .before .before .before .before .before .before .before .before .before .before .before .before .before .before .before .before .before .read-at .ensures) ∙ got .1) in
-    let stepped = c .before .before .before .before .before .before .before .before .before .before .before .before .step .ensures in
+    let stepped = c .before .before .before .before .before .before .before .before .before .before .before .before .step .ensures .0 in
     let on = sym (c .before .before .before .next-after .ensures) ∙ c .before .place .given .1 in
-    let o = onward-on _ _ (h .at) (length log) (h .tally) (c .before .before .before .before .before .before .before .before .before .before .before .before .step .result .tally) on (turn-onward log (h .at) within (got .0 .0) (read .1) s _ stepped) in
+    let o = onward-on _ _ (h .at) (length log) s _ on (turn-onward log (h .at) within (got .0 .0) (read .1) s _ stepped) in
     omega (arith, o .0 .0, o .0 .1)
 
 loop-again : tie.Need-loop-again Inv-loop μ-loop
@@ -67,14 +69,15 @@ loop-again c =
     let within = c .before .before .before .before .before .before .before .before .before .before .before .before .before .before .before .before .before .before .before .before .loop-test .taken in
     let got = c .before .before .before .before .before .before .before .before .before .before .before .before .before .before .before .before .before .field .given in
     let read = read-got (h .tally .fields) (drop (h .at) log) (got .0 .0) (sym (c .before .before .before .before .before .before .before .before .before .before .before .before .before .before .before .before .before .before .before .read-at .ensures) ∙ got .1) in
-    let stepped = c .before .before .before .before .before .before .before .before .before .before .before .before .step .ensures in
+    let stepped = c .before .before .before .before .before .before .before .before .before .before .before .before .step .ensures .0 in
     let on = sym (c .before .before .before .next-after .ensures) ∙ c .before .place .given .1 in
-    let o = onward-on _ _ (h .at) (length log) (h .tally) (c .before .before .before .before .before .before .before .before .before .before .before .before .step .result .tally) on (turn-onward log (h .at) within (got .0 .0) (read .1) s _ stepped) in (
+    let o = onward-on _ _ (h .at) (length log) s _ on (turn-onward log (h .at) within (got .0 .0) (read .1) s _ stepped) in (
       (o .0 .1, search (needs, h .inv .0 .1)),
       (
         (omega (arith, o .1 .0, read .0), omega (arith, o .1 .0, o .1 .1, h .inv .1 .0 .1)),
         loop-on log (h .at) within _ s _ _ _ _ (turn-got log (h .at) within (got .0 .0) (read .1) s _ stepped) (omega (arith, o .1 .0, read .0)) (h .inv .1 .1) _ on,
       ),
+      c .before .before .before .before .before .before .before .before .before .before .before .before .step .ensures .1,
     )
 
 enum-known-verdict : tie.Need-enum-known-verdict Inv-loop μ-loop
@@ -100,10 +103,12 @@ returns c =
     let within = c .before .before .before .before .before .before .before .before .before .before .before .before .before .before .before .before .before .before .before .before .before .loop-test .taken in
     let got = c .before .before .before .before .before .before .before .before .before .before .before .before .before .before .before .before .before .before .field .given in
     let read = read-got (h .tally .fields) (drop (h .at) log) (got .0 .0) (sym (c .before .before .before .before .before .before .before .before .before .before .before .before .before .before .before .before .before .before .before .before .read-at .ensures) ∙ got .1) in
-    let stepped = c .before .before .before .before .before .before .before .before .before .before .before .before .before .step .ensures in
-    rw (c .ended .ensures)
-    (loop-ended log (h .at) within _ s _ _ _ (4095 - h .tally .fields) (turn-got log (h .at) within (got .0 .0) (read .1) s _ stepped) (omega (arith, read .0)) (h .inv .1 .1) _ (sym (c .before .before .before .before .next-after .ensures) ∙ c .before .before .verdict .given .1)
-    ∙ run-opened _ _ _)
+    let stepped = c .before .before .before .before .before .before .before .before .before .before .before .before .before .step .ensures .0 in
+    rw (c .ended .ensures) (
+      loop-ended log (h .at) within _ s _ _ _ (4095 - h .tally .fields) (turn-got log (h .at) within (got .0 .0) (read .1) s _ stepped) (omega (arith, read .0)) (h .inv .1 .1) _ (sym (c .before .before .before .before .next-after .ensures) ∙ c .before .before .verdict .given .1)
+          ∙ run-opened _ _ _,
+      c .before .before .before .before .before .before .before .before .before .before .before .before .before .step .ensures .1,
+    )
 
 enum-known-why : tie.Need-enum-known-why Inv-loop μ-loop
 enum-known-why c = search needs
@@ -124,15 +129,11 @@ returns-2 : tie.Need-returns-2 Inv-loop μ-loop
 returns-2 c =
     let h = c .before .before .before .before .before .before .loop in
     let s = stateOf (h .board) (h .tally) (h .selectors) (h .numbers) (h .status) in
-    rw (c .ended2 .ensures)
-    (loop-stopped (c .before .before .before .before .before .before .before .before .before .before .before .before .before .args .log .now) (h .at) (c .before .before .before .before .before .loop-test .taken) s _ _ _ refl (h .inv .1 .1) (sym (c .before .before .before .before .read-at .ensures) ∙ c .before .before .why .given .1)
-    ∙ run-opened _ _ _)
-
-live-count-requires : tie.Need-live-count-requires Inv-loop μ-loop
-live-count-requires c κs = search needs
-
-cast-live : tie.Need-cast-live Inv-loop μ-loop
-cast-live c = omega (arith, c .live-count .ensures, live-at-most (c .before .before .before .loop .status), c .before .before .before .loop .inv .0 .1 .1 .1, c .before .before .before .before .before .before .before .before .before .before .pre .1)
+    rw (c .ended2 .ensures) (
+      loop-stopped (c .before .before .before .before .before .before .before .before .before .before .before .before .before .args .log .now) (h .at) (c .before .before .before .before .before .loop-test .taken) s _ _ _ refl (h .inv .1 .1) (sym (c .before .before .before .before .read-at .ensures) ∙ c .before .before .why .given .1)
+          ∙ run-opened _ _ _,
+      h .inv .2,
+    )
 
 ended-requires-3 : tie.Need-ended-requires-3 Inv-loop μ-loop
 ended-requires-3 c κs = search needs
@@ -148,11 +149,13 @@ same-length-9 c = search needs
 
 returns-3 : tie.Need-returns-3 Inv-loop μ-loop
 returns-3 c =
-    let h = c .before .before .before .before .loop in
+    let h = c .before .before .loop in
     let s = stateOf (h .board) (h .tally) (h .selectors) (h .numbers) (h .status) in
-    rw (c .ended3 .ensures)
-    (loop-end (c .before .before .before .before .before .before .before .before .before .before .before .args .log .now) (h .at) s _ _ _ (c .before .before .before .loop-test .left) (h .inv .1 .1) (c .before .live-count .ensures)
-    ∙ run-opened _ _ _)
+    rw (c .ended3 .ensures) (
+      loop-end (c .before .before .before .before .before .before .before .before .before .args .log .now) (h .at) s _ _ _ (c .before .loop-test .left) (h .inv .1 .1) (h .inv .2 .kept)
+          ∙ run-opened _ _ _,
+      h .inv .2,
+    )
 
 pub run-spec : {M : Type 1} → statement M
 run-spec =
@@ -182,8 +185,6 @@ run-spec =
     same-length-5
     same-length-6
     returns-2
-    live-count-requires
-    cast-live
     ended-requires-3
     same-length-7
     same-length-8

@@ -12,13 +12,13 @@ enum-told : tie.Need-enum-told
 enum-told c = search needs
 
 apply-change-requires : tie.Need-apply-change-requires
-apply-change-requires c κs = search needs
+apply-change-requires c κs = (c .before .before .before .before .before .before .before .before .before .before .before .before .pre .0 .1, c .before .before .before .before .before .before .before .before .before .before .before .before .pre .1)
 
 count-field-requires : tie.Need-count-field-requires
 count-field-requires c κs =
     let a = c .before .before .before .before .before .before .before .before .before .before .before .before .before .before .before .before .before .before .before .before .before .before .before .args in
     let s = stateOf (boardOf (a .pointers .now) (a .variables .now)) (a .tally) (a .selectors .now) (a .numbers .now) (a .status .now) in
-    omega (arith, fields-kept (a .change) s _ (c .before .before .before .before .before .before .before .before .before .before .apply-change .ensures), c .before .before .before .before .before .before .before .before .before .before .before .before .before .before .before .before .before .before .before .before .before .before .before .pre .0)
+    omega (arith, fields-kept (a .change) s _ (c .before .before .before .before .before .before .before .before .before .before .apply-change .ensures .0), c .before .before .before .before .before .before .before .before .before .before .before .before .before .before .before .before .before .before .before .before .before .before .before .pre .0 .0)
 
 enum-told-2 : tie.Need-enum-told-2
 enum-told-2 c = search needs
@@ -42,13 +42,16 @@ same-length-5 : tie.Need-same-length-5
 same-length-5 c = search needs
 
 returns : tie.Need-returns
-returns c = rw (c .before .before .before .before .before .before .before .before .before .before .before .before .before .before .before .before .before .enum-told .given .1, c .count-field .ensures) (counted _ _ (c .before .before .before .before .before .before .before .before .before .before .before .apply-change .ensures))
+returns c =
+    let applied = c .before .before .before .before .before .before .before .before .before .before .before .apply-change .ensures in
+    rw (c .before .before .before .before .before .before .before .before .before .before .before .before .before .before .before .before .before .enum-told .given .1, c .count-field .ensures)
+    (counted _ _ (applied .0), record { kept = applied .1 .kept; few = applied .1 .few })
 
 returns-2 : tie.Need-returns-2
-returns-2 c = rw (c .enum-told2 .given .1)
+returns-2 c = (rw (c .enum-told2 .given .1), c .before .before .before .before .before .before .before .pre .1)
 
 returns-3 : tie.Need-returns-3
-returns-3 c = rw (c .enum-told3 .given .1)
+returns-3 c = (rw (c .enum-told3 .given .1), c .before .before .before .before .before .before .before .pre .1)
 
 pub follow-spec : {M : Type 1} → statement M
 follow-spec =

@@ -24,7 +24,7 @@ slice-aggregate-follow-2 : tie.Need-slice-aggregate-follow-2
 slice-aggregate-follow-2 c = search needs
 
 follow-requires : tie.Need-follow-requires
-follow-requires c κs = search needs
+follow-requires c κs = c .before .before .before .before .before .before .before .before .before .before .before .before .before .before .before .pre
 
 same-length : tie.Need-same-length
 same-length c = search needs
@@ -40,7 +40,8 @@ returns c =
     let a = c .before .before .before .before .before .before .before .before .before .before .before .before .before .before .before .before .before .before .before .before .before .before .before .before .args in
     let s = stateOf (a .board) (a .tally) (a .selectors .now) (a .numbers .now) (a .status .now) in
     let act = c .before .before .before .before .before .before .before .before .before .before .before .before .before .before .before .before .before .before .before .before .act-of in
-    step-join (act .result) _ s _ _ (c .before .before .before .before .before .before .before .before .before .before .before .before .before .before .check-act .ensures (a .selectors .now) (a .numbers .now)) (act .ensures) (c .before .before .before .before .before .before .before .before .follow .ensures)
+    let followed = c .before .before .before .before .before .before .before .before .follow .ensures in
+    (step-join (act .result) _ s _ _ (c .before .before .before .before .before .before .before .before .before .before .before .before .before .before .check-act .ensures (a .selectors .now) (a .numbers .now)) (act .ensures) (followed .0), followed .1)
 
 pub step-spec : {M : Type 1} → statement M
 step-spec =
