@@ -15,7 +15,7 @@ typedef struct {
     uint32_t *variables, *numbers;
     uint8_t *status;
     uint32_t *answer;
-    uint32_t fields, mallocs;
+    uint32_t fields, mallocs, live;
 } Run;
 
 /* ---- verdicts */
@@ -34,11 +34,9 @@ static uint32_t race(Run *run, uint8_t thread, uint8_t variable) {
 }
 
 static uint32_t accept(Run *run) {
-    uint32_t live = 0;
-    for (int i = 0; i < CELLS; i++) live += run->status[i] == LIVE;
     run->answer[0] = run->fields;
     run->answer[1] = run->mallocs;
-    run->answer[2] = live;
+    run->answer[2] = run->live;
     return ACCEPTED;
 }
 
@@ -97,6 +95,7 @@ static uint32_t do_malloc(Run *run, const uint8_t *v) {
     run->status[cell] = LIVE;
     run->pointers[v[1]] = cell;
     run->mallocs++;
+    run->live++;
     return GO_ON;
 }
 
@@ -114,6 +113,7 @@ static uint32_t do_free(Run *run, const uint8_t *v) {
     run->selectors[2 * word] |= INVALID;
     run->selectors[2 * word + 1] |= INVALID;
     run->status[word] = FREED;
+    run->live--;
     return GO_ON;
 }
 
@@ -204,8 +204,8 @@ uint32_t plain_judge(const uint8_t *log, size_t log_length,
                      uint8_t *status, size_t status_length,
                      uint32_t *tally, size_t tally_length,
                      uint32_t *answer, size_t answer_length) {
-    Run run = {pointers, selectors, variables, numbers, status, answer, 0, 0};
-    if (tally_length < 2 || answer_length < 3) return NO_ROOM;
+    Run run = {pointers, selectors, variables, numbers, status, answer, 0, 0, 0};
+    if (tally_length < 3 || answer_length < 3) return NO_ROOM;
     if (log_length > LOG_BYTES) return refuse(&run, 1);
     if (pointers_length < VARIABLES || selectors_length < SELECTORS || variables_length < VARIABLES ||
         numbers_length < CELLS || status_length < CELLS)
@@ -214,5 +214,6 @@ uint32_t plain_judge(const uint8_t *log, size_t log_length,
     uint32_t kind = run_log(&run, log, log_length);
     tally[0] = run.fields;
     tally[1] = run.mallocs;
+    tally[2] = run.live;
     return kind;
 }

@@ -23,7 +23,7 @@ enum {
     THAWHAZEL_SELECTORS = 2048, /* selector words: cell a has 2a and 2a + 1 */
     THAWHAZEL_VARIABLES = 80,   /* data variables */
     THAWHAZEL_CELLS = 1024,     /* the cells' data numbers, and as many status bytes */
-    THAWHAZEL_TALLY = 2,        /* fields done, mallocs done */
+    THAWHAZEL_TALLY = 3,        /* fields done, mallocs done, cells live */
     THAWHAZEL_ANSWER = 3,       /* the verdict's numbers */
     THAWHAZEL_FIELD = 7,        /* tag, thread, first, second, third, cell, number */
     THAWHAZEL_LOG = 45056,      /* the most bytes that a log may have */
@@ -41,7 +41,7 @@ enum {
     THAWHAZEL_ACCEPTED = 0, /* fields, mallocs, live cells */
     THAWHAZEL_RACE = 1,     /* field, thread, variable */
     THAWHAZEL_REFUSED = 2,  /* the refusal's number, field; answer[2] keeps what it held */
-    THAWHAZEL_NO_ROOM = 3   /* `tally` has fewer than 2 places or `answer` fewer than 3: nothing was looked at or changed */
+    THAWHAZEL_NO_ROOM = 3   /* `tally` or `answer` has fewer than 3 places: nothing was looked at or changed */
 };
 
 /* The numbers of the refusals. Fields are numbered from 0; the field number of 1, 2 and 15 is 0. */
@@ -64,8 +64,9 @@ enum {
 };
 
 /* Judges a log from the fresh state, whatever the buffers hold: nothing needs to be set beforehand. Returns one of the four kinds
- * above. Afterwards the fronts of the five heap buffers hold the final heap and `tally` the fields and mallocs done: the state
- * after the last field, or before the field that raced or was refused. Refusals 1 and 2 change nothing but `answer`. */
+ * above. Afterwards the fronts of the five heap buffers hold the final heap and `tally` the fields done, the mallocs done
+ * and the cells live, which is always the number of statuses equal to THAWHAZEL_LIVE: the state after the last field, or before the
+ * field that raced or was refused. Refusals 1 and 2 change nothing but `answer`. */
 uint32_t thawhazel_judge(const uint8_t *log, size_t log_length,
                          uint16_t *pointers, size_t pointers_length,
                          uint16_t *selectors, size_t selectors_length,

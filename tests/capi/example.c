@@ -43,7 +43,7 @@ static void print_bytes(const char *name, const uint8_t *bytes, size_t length) {
 
 static void judge(const char *name, const uint8_t *log, size_t length) {
     print_verdict(name, thawhazel_judge(log, length, HEAP, tally, THAWHAZEL_TALLY, answer, THAWHAZEL_ANSWER));
-    printf("%s: tally %u %u\n", name, tally[0], tally[1]);
+    printf("%s: tally %u %u %u\n", name, tally[0], tally[1], tally[2]);
 }
 
 static void judge_cases(void) {
@@ -62,7 +62,7 @@ static void lend_too_little(void) {
                                   THAWHAZEL_VARIABLES, numbers, THAWHAZEL_CELLS, status, THAWHAZEL_CELLS, tally, THAWHAZEL_TALLY,
                                   answer, THAWHAZEL_ANSWER));
     print_verdict("2 answers", thawhazel_judge(case_b, sizeof case_b, HEAP, tally, THAWHAZEL_TALLY, answer, 2));
-    printf("x0 is %u, tally %u %u\n", variables[0], tally[0], tally[1]);
+    printf("x0 is %u, tally %u %u %u\n", variables[0], tally[0], tally[1], tally[2]);
 }
 
 static void read_and_write(void) {

@@ -49,7 +49,7 @@ noRoom = 3
 
 -- ---- the tally and the answer as lists
 abbrev pub tallyPlaces : ℕ
-tallyPlaces = 2
+tallyPlaces = 3
 
 abbrev pub answerPlaces : ℕ
 answerPlaces = 3
@@ -58,10 +58,10 @@ abbrev pub hasRoom : List ℕ → List ℕ → Bool
 hasRoom tally answer = leb tallyPlaces (length tally) && leb answerPlaces (length answer)
 
 abbrev pub tallyIn : List ℕ → Tally
-tallyIn tally = record { fields = getD tally 0 0; mallocs = getD tally 1 0 }
+tallyIn tally = record { fields = getD tally 0 0; mallocs = getD tally 1 0; live = getD tally 2 0 }
 
 abbrev pub counts : Tally → List ℕ
-counts t = t .fields ∷ t .mallocs ∷ []
+counts t = t .fields ∷ t .mallocs ∷ t .live ∷ []
 
 -- a verdict and what is lent, in numbers and lists: document 01's numbers as printed, at the front of the answer
 abbrev pub told : Verdict → Lent → List ℕ → List ℕ → Left

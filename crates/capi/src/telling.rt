@@ -11,8 +11,8 @@ use rules::Printed;
 use rules::Tally;
 use rules::Verdict;
 
-// Fields done and mallocs done.
-const TALLY: usize = 2;
+// Fields done, mallocs done, cells live.
+const TALLY: usize = 3;
 
 const ACCEPTED: u32 = 0;
 
@@ -30,12 +30,13 @@ pub fn has_room(tally: &[u32], answer: &[u32]) -> bool
 }
 
 pub fn tally_in(tally: &[u32]) -> Tally
-    requires { ⌜ 2 ≤ length (now tally) ⌝ }
+    requires { ⌜ 3 ≤ length (now tally) ⌝ }
     ensures { λ r. ⌜ r ≡ tallyIn (now (tally .entry)) ⌝ }
 {
     Tally {
         fields: tally[0],
         mallocs: tally[1],
+        live: tally[2],
     }
 }
 
@@ -61,12 +62,12 @@ fn put_numbers(verdict: Verdict, answer: &mut [u32])
 }
 
 pub fn tell(judged: Judged, tally: &mut [u32], answer: &mut [u32]) -> u32
-    requires { ⌜ (2 ≤ length (now tally)) × (3 ≤ length (now answer)) ⌝ }
+    requires { ⌜ (3 ≤ length (now tally)) × (3 ≤ length (now answer)) ⌝ }
     ensures { λ r. ⌜ Tells (judged .verdict) (judged .tally) (now (tally .entry)) (now (answer .entry)) r (now (tally .exit)) (now (answer .exit)) ⌝ }
 {
     let verdict = judged.verdict;
     let after = judged.tally;
-    let counts = [after.fields, after.mallocs];
+    let counts = [after.fields, after.mallocs, after.live];
     put_front(tally, &counts);
     put_numbers(verdict, answer);
     kind_of(verdict)
