@@ -102,7 +102,9 @@ fn put_tally(text: &mut [u8; ROOM], start: usize, tally: Tally) -> usize
     let mut at = put_all(text, start, b"fields=");
     at = put_number(text, at, tally.fields as u64);
     at = put_all(text, at, b" mallocs=");
-    put_number(text, at, tally.mallocs as u64)
+    at = put_number(text, at, tally.mallocs as u64);
+    at = put_all(text, at, b" live=");
+    put_number(text, at, tally.live as u64)
 }
 
 fn put_places(

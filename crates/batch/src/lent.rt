@@ -55,6 +55,7 @@ pub fn judge_poisoned(log: &[u8], output: &mut [u8; OUTPUT]) -> Left {
         Tally {
             fields: NUMBER,
             mallocs: NUMBER,
+            live: NUMBER,
         },
     );
     let verdict = judged.verdict;
@@ -131,10 +132,13 @@ fn stays_from(written: bool, size: usize) -> usize {
 
 // Whether a tally is another than the one that was lent.
 fn is_other(tally: Tally) -> bool {
-    if tally.fields == NUMBER {
-        return tally.mallocs != NUMBER;
+    if tally.fields != NUMBER {
+        return true;
     }
-    true
+    if tally.mallocs != NUMBER {
+        return true;
+    }
+    tally.live != NUMBER
 }
 
 // Whether anything was written of the output that was to stay.
