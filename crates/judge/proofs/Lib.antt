@@ -9,4 +9,5 @@ pub mod Copied
 pub mod Lending
 pub mod Replaying
 pub mod OneResult
+pub mod Told
 pub mod Fakes

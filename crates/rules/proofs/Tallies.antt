@@ -1,4 +1,5 @@
--- What a command does to the tally: one field more, and at most one malloc more. And how many cells can be live.
+-- What a command does to the tally: one field more, and at most one malloc more. How many cells can be live. And that an accepted
+-- log's numbers are those of the tally.
 -- Assumes nothing.
 use Prim.Native.Nat.{ℕ, _+_, _≤_}
 use mathlib.Core.Bool.{Bool, cond}
@@ -8,13 +9,21 @@ use mathlib.Core.List.{List, [], _∷_}
 use mathlib.Core.Path.{_≡_, refl}
 use native.Mathlib.Omega.{arith}
 use Rattle.fields.proofs.Passing.{either}
+use Rattle.fields.specs.declared.Field.{Field}
 use Rattle.rules.specs.declared.Change.{Change}
 use Rattle.rules.specs.declared.Change.the-variants.{Stay, Allocate, Release, Move, Put}
 use Rattle.rules.specs.declared.Act.{Act}
+use Rattle.rules.specs.declared.Answer.{Answer}
+use Rattle.rules.specs.declared.Answer.the-variants.{Go, Race, Refuse}
+use Rattle.rules.specs.declared.Tally.{Tally}
+use Rattle.rules.specs.declared.Verdict.{Verdict}
+use Rattle.rules.specs.declared.Verdict.the-variants.{Accepted, Raced, Refused}
 use Rattle.rules.specs.State.{State, live, pointer, store, write}
 use Rattle.rules.specs.Words.{isUnset}
+use Rattle.rules.specs.Check.{check}
+use Rattle.rules.specs.Commands.{actOf}
 use Rattle.rules.specs.Effect.{apply, countField, effect, free, give}
-use Rattle.rules.specs.Run.{liveCount}
+use Rattle.rules.specs.Run.{End, Outcome, whole, unread, liveCount, next, runTo, tallyOf}
 
 apply-fields : (c : Change) (s : State) → apply c s .fields ≡ s .fields
 unfolding give write store free
@@ -49,3 +58,21 @@ one-at-most b = either (λ n. n ≤ 1) b (omega arith) (omega arith)
 pub live-at-most : (status : List ℕ) → liveCount status ≤ length status
 live-at-most [] = omega arith
 live-at-most (x ∷ xs) = omega (arith, one-at-most (eqb x live), live-at-most xs)
+
+-- the numbers of a verdict that accepts are a tally's
+abbrev pub Takes : Verdict → Tally → Type 0
+Takes (Accepted fields mallocs cells) t = t ≡ record { fields = fields; mallocs = mallocs; live = cells }
+Takes (Raced field thread variable) t = Unit {0}
+Takes (Refused r field) t = Unit {0}
+
+-- a field's answer lets the later fields decide, or stops
+next-tally : (k : Answer) (n : ℕ) (f : Field) (s : State) (later : Outcome) → Takes (later .verdict) (tallyOf (later .state))
+    → Takes (next k n f s later .verdict) (tallyOf (next k n f s later .state))
+next-tally Go n f s later h = h
+next-tally (Race v) n f s later h = tt
+next-tally (Refuse r) n f s later h = tt
+
+pub accepted-tally : (fs : List Field) (end : End) (s : State) → Takes (runTo end fs s .verdict) (tallyOf (runTo end fs s .state))
+accepted-tally [] whole s = refl
+accepted-tally [] (unread r) s = tt
+accepted-tally (f ∷ fs) end s = next-tally (check (actOf f) s) (s .fields) f s (runTo end fs (effect (actOf f) s)) (accepted-tally fs end (effect (actOf f) s))
