@@ -72,10 +72,10 @@ fn count_up(others: u32, new: u8) -> u32
     others
 }
 
-// A cell's status changed, and the number of live cells brought along: no status is read but this one.
+// A cell's status changed, and the number of live cells brought along: no other status is read.
 pub fn change_status(status: &mut [u8], cell: usize, new: u8, live: u32) -> u32
     requires { ⌜ (live ≡ liveCount (now status)) × (length (now status) ≤ cells) ⌝ }
-    ensures { λ r. ⌜ now (status .exit) ≡ set (now (status .entry)) cell new ⌝ }
+    ensures { λ _. ⌜ now (status .exit) ≡ set (now (status .entry)) cell new ⌝ }
     ensures { λ r. ⌜ r ≡ liveCount (now (status .exit)) ⌝ }
 {
     if cell < status.len() {

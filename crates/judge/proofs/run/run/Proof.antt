@@ -1,5 +1,5 @@
--- `judge::run::run` meets its contract. The invariant: the run of what is left, from what is held, gives what the whole run gives, and the tally
--- keeps the count of the live cells.
+-- `judge::run::run` meets its contract. The invariant: the run of what is left, from what is held, gives what the whole run gives,
+-- and the tally keeps the count of the live cells.
 use Prim.Native.Nat.{_-_, _≤_}
 use Rattle.judge.proofs.Running.{loop-end, loop-ended, loop-on, loop-stopped, onward-on, read-got, run-opened, turn-got, turn-onward}
 use Rattle.judge.specs.Runs.{runFrom}
