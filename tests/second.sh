@@ -14,7 +14,7 @@ fi
 cargo test --quiet --offline --manifest-path second/Cargo.toml
 cargo build --quiet --release --offline --manifest-path second/Cargo.toml
 second=second/target/release/second
-$second vectors second/vectors/order-01.tsv
+$second vectors second/vectors/order-02.tsv
 $second check "$seed" 500
 $second compare "$seed" "$count" ./thawhazel batch
 if $second --fault unset_selectors compare "$seed" 200 ./thawhazel batch >/dev/null; then

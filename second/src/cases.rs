@@ -1,5 +1,5 @@
-//! Document 01's cases A to T, typed from the document, and cases of its own
-//! for order 1 of document 02. tests/cases.py stores both as examples.
+//! Document 01's cases A to T, typed from the document, and further ones for
+//! the orders of document 02.
 
 use crate::field::{encode, row_of, Field, *};
 use crate::heap::{Heap, INVALID, UNSET};
@@ -340,4 +340,22 @@ fn cas_of_the_aba_races() {
     assert_eq!(line, "race 27 0 16");
     // Without the mark the two sides are equal.
     assert_eq!((heap.pointers[0], heap.pointers[16]), (5, 2053));
+}
+
+#[test]
+fn the_tally_keeps_the_live_count() {
+    let live = |fields: &[Field]| {
+        let mut tally = Tally::default();
+        Judge::default().run(&bytes(fields), &mut Heap::fresh(), &mut tally);
+        tally.live
+    };
+    assert_eq!(live(&[]), 0);
+    assert_eq!(live(&[m(0, 5, 0), m(1, 6, 0)]), 2);
+    assert_eq!(live(&[m(0, 5, 0), m(1, 6, 0), free(0)]), 1);
+    // A malloc of a freed cell counts, and the free of an unset pointer does not.
+    assert_eq!(live(&[m(0, 5, 0), free(0), m(0, 5, 0)]), 1);
+    assert_eq!(live(&[m(0, 5, 0), free(1)]), 1);
+    // A stop leaves the count before its field.
+    assert_eq!(live(&[m(0, 5, 0), m(0, 5, 0)]), 1);
+    assert_eq!(live(&[m(0, 5, 0), free(0), free(0)]), 0);
 }

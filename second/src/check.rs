@@ -39,6 +39,7 @@ pub fn check(judge: &Judge, seed: u64, count: u64) -> Result<Summary, String> {
 fn check_log(judge: &Judge, log: &[u8], random: &mut Random) -> Result<Verdict, String> {
     let mut recording = Judged::of(judge, log, Heap::fresh());
     let verdict = recording.verdict;
+    check_live_count(&recording)?;
     check_fields(log)?;
     check_written_field(random)?;
     check_replay(judge, log, &recording)?;
@@ -60,6 +61,7 @@ struct Judged {
 const FOREIGN_TALLY: Tally = Tally {
     fields: 77_777,
     mallocs: 88_888,
+    live: 99_999,
 };
 
 impl Judged {
@@ -72,6 +74,14 @@ impl Judged {
             tally,
         }
     }
+}
+
+/// Order 2: the tally's live count is that of the statuses, at every exit but
+/// the outright refusals, which leave the tally.
+fn check_live_count(recording: &Judged) -> Checked {
+    let Judged { heap, tally, .. } = recording;
+    let right = *tally == FOREIGN_TALLY || tally.live == heap.live_cells();
+    ensure(right, "the live count is wrong")
 }
 
 /// Fields read and written again give the same bytes.
@@ -147,7 +157,8 @@ fn check_matching(judge: &Judge, log: &[u8], replay: &[u8]) -> Checked {
         if field.tag == MALLOC {
             matching[field.at(Cell)] = Some(copy.at(Cell));
         }
-        compare_states(&recorded.heap, &replayed.heap, &matching)
+        compare_live_counts(&recorded, &replayed)
+            .and_then(|()| compare_states(&recorded.heap, &replayed.heap, &matching))
             .map_err(|what| format!("after field {}: {what}", recorded.tally.fields - 1))?;
     }
 }
@@ -190,9 +201,14 @@ impl<'log> Side<'log> {
     }
 }
 
+fn compare_live_counts(recorded: &Side, replayed: &Side) -> Checked {
+    let (here, there) = (recorded.tally.live, replayed.tally.live);
+    ensure(here == there, "there are more live cells on one side")?;
+    let counted = here == recorded.heap.live_cells() && there == replayed.heap.live_cells();
+    ensure(counted, "the live count is wrong")
+}
+
 fn compare_states(recorded: &Heap, replayed: &Heap, matching: &[Option<usize>]) -> Checked {
-    let same_count = recorded.live_cells() == replayed.live_cells();
-    ensure(same_count, "there are more live cells on one side")?;
     let same_data = recorded.data_variables == replayed.data_variables;
     ensure(same_data, "a data variable differs")?;
     let pointers = recorded.pointers.iter().zip(&replayed.pointers);
@@ -365,7 +381,7 @@ mod tests {
     #[test]
     fn faults_that_break_a_property_are_found() {
         use crate::fault::Fault::*;
-        for fault in [LiveNow, ReplayCopies] {
+        for fault in [LiveNow, ReplayCopies, UncountedFree, UncountedReuse] {
             let faulty = Judge { fault: Some(fault) };
             assert!(check(&faulty, 2, 200).is_err(), "{fault:?}");
         }

@@ -1,5 +1,6 @@
 //! Known faults, planted on request so that a comparison can be seen to fail.
-//! They are document 01's plausible wrong turns, and the replay that copies.
+//! They are document 01's plausible wrong turns, the replay that copies, and
+//! the wrong counts of live cells.
 
 #[derive(Clone, Copy, PartialEq, Eq, Debug)]
 pub enum Fault {
@@ -13,14 +14,20 @@ pub enum Fault {
     CopyRaces,
     /// The replay copies the log.
     ReplayCopies,
+    /// A free does not count its cell out of the live ones.
+    UncountedFree,
+    /// A malloc of a freed cell does not count it among the live ones.
+    UncountedReuse,
 }
 
-pub const FAULTS: [(&str, Fault); 5] = [
+pub const FAULTS: [(&str, Fault); 7] = [
     ("live_now", Fault::LiveNow),
     ("cleared_selectors", Fault::ClearedSelectors),
     ("unset_selectors", Fault::UnsetSelectors),
     ("copy_races", Fault::CopyRaces),
     ("replay_copies", Fault::ReplayCopies),
+    ("uncounted_free", Fault::UncountedFree),
+    ("uncounted_reuse", Fault::UncountedReuse),
 ];
 
 pub fn fault_named(name: &str) -> Option<Fault> {

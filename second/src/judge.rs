@@ -10,11 +10,23 @@ pub const MAX_LOG_BYTES: usize = 45_056;
 pub const MAX_FIELDS: usize = 4096;
 pub const MAX_MALLOCS: usize = 1024;
 
-/// What was done so far.
+/// What was done so far, and how many cells are live.
 #[derive(Clone, Copy, PartialEq, Eq, Debug, Default)]
 pub struct Tally {
     pub fields: usize,
     pub mallocs: usize,
+    pub live: usize,
+}
+
+impl Tally {
+    /// The verdict of a log whose every field is done.
+    pub fn accepted(&self) -> Verdict {
+        Verdict::Accepted {
+            fields: self.fields,
+            mallocs: self.mallocs,
+            live: self.live,
+        }
+    }
 }
 
 #[derive(Clone, Copy, PartialEq, Eq, Debug)]
@@ -141,7 +153,7 @@ impl Judge {
         heap.reset();
         *tally = Tally::default();
         match self.run_fields(log, heap, tally) {
-            Ok(()) => accepted(heap, tally),
+            Ok(()) => tally.accepted(),
             Err(stop) => stop,
         }
     }
@@ -159,9 +171,8 @@ impl Judge {
         if let Some(stop) = self.stop(field, heap, tally) {
             return Err(stop);
         }
-        self.apply(field, heap);
+        self.apply(field, heap, tally);
         tally.fields += 1;
-        tally.mallocs += usize::from(field.tag == MALLOC);
         Ok(())
     }
 
@@ -212,11 +223,11 @@ impl Judge {
         }
     }
 
-    fn apply(&self, field: &Field, heap: &mut Heap) {
+    fn apply(&self, field: &Field, heap: &mut Heap, tally: &mut Tally) {
         let (p, q, x) = (field.at(P), field.at(Q), field.at(X));
         match field.tag {
-            MALLOC => self.malloc(field, heap),
-            FREE => self.free(p, heap),
+            MALLOC => self.malloc(field, heap, tally),
+            FREE => self.free(p, heap, tally),
             COPY => heap.pointers[p] = heap.pointers[q],
             CAS_DONE => heap.pointers[p] = heap.pointers[field.at(R)],
             LOAD => heap.pointers[p] = heap.selectors[selector_through(field, Q, heap)],
@@ -240,7 +251,8 @@ impl Judge {
         }
     }
 
-    fn malloc(&self, field: &Field, heap: &mut Heap) {
+    /// The cell is not live here, or the field would have been refused.
+    fn malloc(&self, field: &Field, heap: &mut Heap, tally: &mut Tally) {
         let cell = field.at(Cell);
         let first_use = heap.statuses[cell] == NEVER_USED;
         if first_use {
@@ -252,15 +264,24 @@ impl Judge {
         }
         heap.statuses[cell] = LIVE;
         heap.pointers[field.at(P)] = cell as u16;
+        tally.mallocs += 1;
+        if first_use || self.fault != Some(Fault::UncountedReuse) {
+            tally.live += 1;
+        }
     }
 
-    /// The pointer is valid here, or the field would have been a race.
-    fn free(&self, pointer: usize, heap: &mut Heap) {
+    /// The pointer is valid here, or the field would have been a race. So its
+    /// cell, if it has one, is live.
+    fn free(&self, pointer: usize, heap: &mut Heap, tally: &mut Tally) {
         let cell = match cell_of(heap.pointers[pointer]) {
             Some(cell) => cell,
             None => return,
         };
         heap.statuses[cell] = FREED;
+        if self.fault != Some(Fault::UncountedFree) {
+            // Only after a planted fault can the count be 0 here.
+            tally.live = tally.live.saturating_sub(1);
+        }
         heap.invalidate_words_at(cell);
         for selector in 0..2 {
             let word = &mut heap.selectors[selector_place(cell, selector)];
@@ -280,14 +301,6 @@ pub fn outright_refusal(log: &[u8], heap: &Heap) -> Option<u8> {
         Some(HEAP_TOO_SHORT)
     } else {
         None
-    }
-}
-
-pub fn accepted(heap: &Heap, tally: &Tally) -> Verdict {
-    Verdict::Accepted {
-        fields: tally.fields,
-        mallocs: tally.mallocs,
-        live: heap.live_cells(),
     }
 }
 

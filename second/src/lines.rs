@@ -41,7 +41,12 @@ fn state_column(verdict: &Verdict, heap: &Heap, tally: &Tally) -> String {
     {
         return "untouched".to_string();
     }
-    let mut text = format!("fields={} mallocs={}", tally.fields, tally.mallocs);
+    let Tally {
+        fields,
+        mallocs,
+        live,
+    } = tally;
+    let mut text = format!("fields={fields} mallocs={mallocs} live={live}");
     add_changes(&mut text, 'p', &heap.pointers, UNSET);
     add_changes(&mut text, 's', &heap.selectors, UNSET);
     add_changes(&mut text, 'x', &heap.data_variables, 0);

@@ -32,7 +32,8 @@ const USAGE: &str = "usage: second [--fault NAME] COMMAND
   compare SEED COUNT COMMAND ARG..  compare with another program's lines
   check SEED COUNT                  check properties on random logs
   vectors FILE                      compare with a file of vectors
-faults: live_now cleared_selectors unset_selectors copy_races replay_copies";
+faults: live_now cleared_selectors unset_selectors copy_races replay_copies
+  uncounted_free uncounted_reuse";
 
 /// Why the program does not succeed.
 enum Trouble {

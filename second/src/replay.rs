@@ -3,7 +3,7 @@
 use crate::fault::Fault;
 use crate::field::{self, Field, Slot::*, MALLOC};
 use crate::heap::{Heap, NEVER_USED};
-use crate::judge::{accepted, outright_refusal, Cursor, Judge, Tally, Verdict};
+use crate::judge::{outright_refusal, Cursor, Judge, Tally, Verdict};
 use crate::refusal::OUTPUT_TOO_SHORT;
 
 /// Judges a log and, where it is accepted, writes its replay at the front of
@@ -26,7 +26,7 @@ pub fn write_replay(
     match replay_bytes(judge, log, heap, tally) {
         Ok(replay) => {
             output[..log.len()].copy_from_slice(&replay);
-            accepted(heap, tally)
+            tally.accepted()
         }
         // The bytes made so far are dropped: the output stays untouched.
         Err(stop) => stop,

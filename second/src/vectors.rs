@@ -41,7 +41,7 @@ fn compare_vector(judge: &Judge, line: &str) -> Result<(), String> {
 mod tests {
     use super::*;
 
-    const OUTSIDE: &str = include_str!("../vectors/order-01.tsv");
+    const OUTSIDE: &str = include_str!("../vectors/order-02.tsv");
 
     #[test]
     fn outside_vectors_agree() {
@@ -50,7 +50,7 @@ mod tests {
 
     #[test]
     fn a_wrong_vector_is_found() {
-        let right = "0202000000\taccepted 1 0 0\t0202000000\tfields=1 mallocs=0";
+        let right = "0202000000\taccepted 1 0 0\t0202000000\tfields=1 mallocs=0 live=0";
         assert_eq!(compare_vectors(&Judge::default(), right), Ok(1));
         let wrong = right.replace("fields=1", "fields=2");
         assert!(compare_vectors(&Judge::default(), &wrong).is_err());

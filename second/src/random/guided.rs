@@ -408,7 +408,7 @@ impl<'r> Guide<'r> {
     fn malloc_of_live(&mut self) -> Option<Field> {
         let thread = self.thread();
         let p = self.name(thread);
-        if self.heap.live_cells() == 0 {
+        if self.tally.live == 0 {
             let cell = self.any_cell(|status| status != LIVE)?;
             self.push(&Field::of(MALLOC, &[thread, p, cell, 0]));
         }
