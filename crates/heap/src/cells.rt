@@ -1,12 +1,10 @@
 // The lists of the cells: what freeing a cell and giving it out do to the words, to its status, and to the number of live cells.
 ghost use mathlib.Core.List.{map};
 ghost use mathlib.Core.Path.{_≡_};
-ghost use Prim.Native.Nat.{_+_, _-_, _≤_};
-ghost use lib.ListN.{length, set};
-ghost use Rattle.fields.specs.Limits.{cells};
-ghost use Rattle.heap.specs.Counts.{liveCells};
+ghost use Prim.Native.Nat.{_%_, _+_, _-_};
+ghost use lib.ListN.{set};
+ghost use Rattle.heap.specs.Counts.{liveAfter, liveCells};
 ghost use Rattle.rules.specs.Effect.{changeOwn, changeWord};
-ghost use Rattle.rules.specs.Run.{liveCount};
 ghost use Rattle.rules.specs.Words.{afterFree, invalidated, unset};
 use super::lists::set_word;
 use super::lists::word_at;
@@ -50,11 +48,13 @@ pub fn unset_own(selectors: &mut [u16], cell: u16)
     set_word(selectors, at + 1, Heap::UNSET);
 }
 
-// The number of live cells without a cell that had this status.
+// The number of live cells without a cell that had this status. None is left of none.
 fn count_down(live: u32, was: u8) -> u32
-    requires { ⌜ liveCells was ≤ live ⌝ }
     ensures { λ r. ⌜ r ≡ live - liveCells was ⌝ }
 {
+    if live == 0 {
+        return 0;
+    }
     if was == Heap::LIVE {
         return live - 1;
     }
@@ -63,20 +63,19 @@ fn count_down(live: u32, was: u8) -> u32
 
 // The number of live cells with a cell that gets this status, beside the others.
 fn count_up(others: u32, new: u8) -> u32
-    requires { ⌜ others ≤ cells ⌝ }
-    ensures { λ r. ⌜ r ≡ others + liveCells new ⌝ }
+    ensures { λ r. ⌜ r ≡ (others + liveCells new) % 4294967296 ⌝ }
 {
     if new == Heap::LIVE {
-        return others + 1;
+        return std::num::wrapping_add_u32(others, 1);
     }
     others
 }
 
-// A cell's status changed, and the number of live cells brought along: no other status is read.
+// A cell's status changed, and the number of live cells brought along: no other status is read. Whatever number is handed in is
+// counted on; where it is the count of the statuses, so is the one handed back.
 pub fn change_status(status: &mut [u8], cell: usize, new: u8, live: u32) -> u32
-    requires { ⌜ (live ≡ liveCount (now status)) × (length (now status) ≤ cells) ⌝ }
     ensures { λ _. ⌜ now (status .exit) ≡ set (now (status .entry)) cell new ⌝ }
-    ensures { λ r. ⌜ r ≡ liveCount (now (status .exit)) ⌝ }
+    ensures { λ r. ⌜ r ≡ liveAfter (now (status .entry)) cell new live ⌝ }
 {
     if cell < status.len() {
         let others = count_down(live, status[cell]);

@@ -6,14 +6,14 @@ use native.Mathlib.Omega.{arith}
 use Rattle.heap.proofs.cells.count_up.Statement.{statement}
 use Rattle.heap.proofs.cells.count_up.Tie as tie
 
-add-result : tie.Need-add-result
-add-result c = search needs
+wrapping-add-u32-requires : tie.Need-wrapping-add-u32-requires
+wrapping-add-u32-requires c κs = search needs
 
 returns : tie.Need-returns
-returns c = rw (eq-eqb (c .before .args .new) live (c .if1 .taken))
+returns c = rw (eq-eqb (c .before .before .args .new) live (c .before .if1 .taken)) (c .wrapping-add-u32 .ensures)
 
 returns-2 : tie.Need-returns-2
 returns-2 c = rw (ne-eqb (c .before .args .new) live (c .if1 .left)) (omega arith)
 
 pub count-up-spec : {M : Type 1} → statement M
-count-up-spec = tie.close (tie.spec add-result returns returns-2)
+count-up-spec = tie.close (tie.spec wrapping-add-u32-requires returns returns-2)

@@ -1,6 +1,8 @@
 -- `judge::effects::free_cell` meets its contract.
 use Rattle.judge.proofs.Changing.{free-join}
+use Rattle.heap.proofs.Counting.{live-kept}
 use borrow.Author.Needs.{needs}
+use mathlib.Core.Path.{_∙_}
 use Rattle.judge.proofs.effects.free_cell.Statement.{statement}
 use Rattle.judge.proofs.effects.free_cell.Tie as tie
 
@@ -14,7 +16,7 @@ invalidate-own-requires : tie.Need-invalidate-own-requires
 invalidate-own-requires c κs = search needs
 
 change-status-requires : tie.Need-change-status-requires
-change-status-requires c κs = (c .before .before .before .before .before .before .before .before .before .before .before .before .before .before .before .before .pre .kept, c .before .before .before .before .before .before .before .before .before .before .before .before .before .before .before .before .pre .few)
+change-status-requires c κs = search needs
 
 same-length : tie.Need-same-length
 same-length c = search needs
@@ -33,7 +35,7 @@ returns c =
       λ variables numbers.
           free-join (a .pointers .now) _ variables (a .tally) _ (a .selectors .now) _ _ numbers (a .status .now) _
           (c .before .before .before .before .before .before .before .before .before .before .sweep2 .ensures) (c .before .before .before .before .before .before .invalidate-own .ensures) (changed .0) (c .before .before .before .before .before .before .before .before .before .before .before .before .before .before .sweep .ensures),
-      record { kept = changed .1; few = search (needs, start .pre .few) },
+      record { kept = rw (changed .0) (changed .1 ∙ live-kept (a .status .now) _ _ _ (start .pre .kept) (start .pre .few)); few = search (needs, start .pre .few) },
     )
 
 pub free-cell-spec : {M : Type 1} → statement M

@@ -1,6 +1,8 @@
 -- `judge::effects::give_cell` meets its contract.
 use Rattle.judge.proofs.Changing.{give-join}
+use Rattle.heap.proofs.Counting.{live-kept}
 use borrow.Author.Needs.{needs}
+use mathlib.Core.Path.{_∙_}
 use Rattle.judge.proofs.effects.give_cell.Statement.{statement}
 use Rattle.judge.proofs.effects.give_cell.Tie as tie
 
@@ -11,7 +13,7 @@ renew-requires : tie.Need-renew-requires
 renew-requires c κs = search needs
 
 change-status-requires : tie.Need-change-status-requires
-change-status-requires c κs = (c .before .before .before .before .before .before .before .before .before .before .before .before .before .before .pre .1 .kept, c .before .before .before .before .before .before .before .before .before .before .before .before .before .before .pre .1 .few)
+change-status-requires c κs = search needs
 
 set-word-requires : tie.Need-set-word-requires
 set-word-requires c κs = search needs
@@ -39,7 +41,7 @@ returns c =
       λ variables.
           give-join (a .pointers .now) _ variables (a .tally) _ _ _ _ (a .selectors .now) _ (a .numbers .now) _ (a .status .now) _
           (c .before .before .before .before .before .before .before .before .before .before .before .before .before .before .before .before .status-at .ensures) (c .before .before .before .before .before .before .before .before .before .before .before .before .before .renew .ensures .0) (c .before .before .before .before .before .before .before .before .before .before .before .before .before .renew .ensures .1) (changed .0) (c .before .before .before .set-word .ensures),
-      record { kept = changed .1; few = search (needs, start .pre .1 .few) },
+      record { kept = rw (changed .0) (changed .1 ∙ live-kept (a .status .now) _ _ _ (start .pre .1 .kept) (start .pre .1 .few)); few = search (needs, start .pre .1 .few) },
     )
 
 pub give-cell-spec : {M : Type 1} → statement M
