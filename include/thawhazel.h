@@ -24,8 +24,9 @@ enum {
     THAWHAZEL_VARIABLES = 80,   /* data variables */
     THAWHAZEL_CELLS = 1024,     /* the cells' data numbers, and as many status bytes */
     THAWHAZEL_TALLY = 3,        /* fields done, mallocs done, cells live */
-    THAWHAZEL_ANSWER = 3,       /* the verdict's numbers */
+    THAWHAZEL_ANSWER = 4,       /* the verdict's numbers */
     THAWHAZEL_FIELD = 7,        /* tag, thread, first, second, third, cell, number */
+    THAWHAZEL_READ = 8,         /* these, and the byte offset of what was read */
     THAWHAZEL_LOG = 45056,      /* the most bytes that a log may have */
     THAWHAZEL_FIELD_BYTES = 11  /* the most bytes that one field takes */
 };
@@ -39,9 +40,9 @@ enum { THAWHAZEL_NEVER_USED = 0, THAWHAZEL_LIVE = 1, THAWHAZEL_FREED = 2 };
 /* What thawhazel_judge and thawhazel_replay return, and the numbers that then stand at the front of `answer`. */
 enum {
     THAWHAZEL_ACCEPTED = 0, /* fields, mallocs, live cells */
-    THAWHAZEL_RACE = 1,     /* field, thread, variable */
-    THAWHAZEL_REFUSED = 2,  /* the refusal's number, field; answer[2] keeps what it held */
-    THAWHAZEL_NO_ROOM = 3   /* `tally` or `answer` has fewer than 3 places: nothing was looked at or changed */
+    THAWHAZEL_RACE = 1,     /* field, thread, variable, byte offset of the field */
+    THAWHAZEL_REFUSED = 2,  /* the refusal's number, field, byte offset of the field; of 1, 2 and 15 only the number and 0 */
+    THAWHAZEL_NO_ROOM = 3   /* `tally` has fewer than 3 places or `answer` fewer than 4: nothing was looked at or changed */
 };
 
 /* The numbers of the refusals. Fields are numbered from 0; the field number of 1, 2 and 15 is 0. */
@@ -90,10 +91,11 @@ uint32_t thawhazel_replay(const uint8_t *log, size_t log_length,
                           uint32_t *tally, size_t tally_length,
                           uint32_t *answer, size_t answer_length);
 
-/* Reads the field at the front of `part`. Returns 0, and the field's tag, thread, first, second, third, cell and number at the front
- * of `field`; numbers that the tag's row lacks are 0. Else returns the number of a refusal, 4 to 10, and changes nothing. A `field`
- * with fewer than 7 places gets 15, before anything else is looked at. */
-uint32_t thawhazel_read_field(const uint8_t *part, size_t part_length, uint32_t *field, size_t field_length);
+/* Reads the field at the front of `part`, which stands at this place of a log. Returns 0, and the field's tag, thread, first, second,
+ * third, cell and number and its byte offset, the place, at the front of `field`; numbers that the tag's row lacks are 0. Else returns
+ * the number of a refusal, 4 to 10, with the offset in field[7], and changes nothing else. A `field` with fewer than 8 places gets
+ * 15, before anything else is looked at. */
+uint32_t thawhazel_read_field(const uint8_t *part, size_t part_length, uint32_t place, uint32_t *field, size_t field_length);
 
 /* Writes one field (tag, thread, first, second, third, cell, number; those that the tag's row lacks are ignored) at the front of
  * `out`. Returns 0 and the number of bytes written in answer[0]. Else returns the number of a refusal, 5, 7, 8, 9, 10 or 15, and

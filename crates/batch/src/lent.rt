@@ -74,8 +74,9 @@ pub fn judge_poisoned(log: &[u8], output: &mut [u8; OUTPUT]) -> Left {
 pub fn is_accepted(verdict: Verdict) -> bool {
     match verdict {
         Verdict::Accepted(_, _, _) => true,
-        Verdict::Raced(_, _, _) => false,
-        Verdict::Refused(_, _) => false,
+        Verdict::Raced(_, _, _, _) => false,
+        Verdict::Refused(_, _, _) => false,
+        Verdict::Declined(_) => false,
     }
 }
 
@@ -83,11 +84,9 @@ pub fn is_accepted(verdict: Verdict) -> bool {
 pub fn is_untouched(verdict: Verdict) -> bool {
     match verdict {
         Verdict::Accepted(_, _, _) => false,
-        Verdict::Raced(_, _, _) => false,
-        Verdict::Refused(why, _) => match why.number() {
-            1 | 2 | 15 => true,
-            _ => false,
-        },
+        Verdict::Raced(_, _, _, _) => false,
+        Verdict::Refused(_, _, _) => false,
+        Verdict::Declined(_) => true,
     }
 }
 

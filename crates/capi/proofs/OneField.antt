@@ -14,21 +14,21 @@ use Rattle.fields.specs.declared.Refusal.{Refusal}
 use Rattle.fields.specs.declared.Written.{Written}
 use Rattle.fields.specs.declared.Written.the-variants.{Bytes, Refused}
 use Rattle.fields.specs.Order.{Test, inOrder}
-use Rattle.fields.specs.Read.{readField}
+use Rattle.fields.specs.Read.{placed, readField}
 use Rattle.fields.specs.Refusals.{numberOf}
 use Rattle.fields.specs.Write.{Writing, fieldBytes, writeField, writing, writingChecks}
 use Rattle.capi.specs.Fronts.{front}
-use Rattle.capi.specs.Fields.{fieldIn, fieldPlaces, readCall, readLeft, readTold, tooShort, writeCall, writeLeft, writeTold}
+use Rattle.capi.specs.Fields.{fieldIn, fieldPlaces, readCall, readLeft, readPlaces, readTold, tooShort, writeCall, writeLeft, writeTold}
 
 -- ---- reading
-module _ (part field : List ℕ) where
-  pub read-short : length field < fieldPlaces → readLeft tooShort field ≡ readCall part field
+module _ (part : List ℕ) (place : ℕ) (field : List ℕ) where
+  pub read-short : length field < readPlaces → readLeft tooShort field ≡ readCall part place field
   unfolding readCall
-  read-short h = rw (lt-leb fieldPlaces (length field) h)
+  read-short h = rw (lt-leb readPlaces (length field) h)
 
-  pub read-told : fieldPlaces ≤ length field → (r : Read) → r ≡ readField part → readTold r field ≡ readCall part field
+  pub read-told : readPlaces ≤ length field → (r : Read) → r ≡ placed place (readField part) → readTold r field ≡ readCall part place field
   unfolding readCall
-  read-told h r e = rw (le-leb fieldPlaces (length field) h, e)
+  read-told h r e = rw (le-leb readPlaces (length field) h, e)
 
 -- ---- writing
 module _ (field out answer : List ℕ) where

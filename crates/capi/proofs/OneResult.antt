@@ -20,8 +20,8 @@ pub one-replay : (log out pointers selectors variables numbers status tally answ
     → x ≡ y
 one-replay log out pointers selectors variables numbers status tally answer = one-answer (replayCall log out pointers selectors variables numbers status tally answer)
 
-pub one-reading : (part field : List ℕ) (x y : ReadLeft) → x ≡ readCall part field → y ≡ readCall part field → x ≡ y
-one-reading part field = one-answer (readCall part field)
+pub one-reading : (part : List ℕ) (place : ℕ) (field : List ℕ) (x y : ReadLeft) → x ≡ readCall part place field → y ≡ readCall part place field → x ≡ y
+one-reading part place field = one-answer (readCall part place field)
 
 pub one-writing : (field out answer : List ℕ) (x y : WriteLeft) → x ≡ writeCall field out answer → y ≡ writeCall field out answer → x ≡ y
 one-writing field out answer = one-answer (writeCall field out answer)

@@ -1,10 +1,11 @@
--- The calls that read and write one field. In a list a field is its tag, thread, first, second, third, cell and number.
+-- The calls that read and write one field. In a list a field is its tag, thread, first, second, third, cell and number; what is read
+-- has the byte offset after them, a refusal too.
 -- Both return 0 or the number of a refusal; 15 where a list is too short, and then nothing was looked at or touched. Assumes nothing.
 use Prim.Native.Nat.{ℕ}
 use lib.Dec.{leb}
-use lib.ListN.{getD, length}
+use lib.ListN.{getD, length, set}
 use mathlib.Core.Bool.{cond, _&&_}
-use mathlib.Core.List.{List, [], _∷_}
+use mathlib.Core.List.{List, [], _∷_, _++_}
 use Rattle.fields.specs.declared.Field.{Field}
 use Rattle.fields.specs.declared.Read.{Read}
 use Rattle.fields.specs.declared.Read.the-variants as read
@@ -12,13 +13,16 @@ use Rattle.fields.specs.declared.Refusal.the-variants.{OutputTooShort}
 use Rattle.fields.specs.declared.Written.{Written}
 use Rattle.fields.specs.declared.Written.the-variants as written
 use Rattle.fields.specs.Numbers.{numbersOf}
-use Rattle.fields.specs.Read.{readField}
+use Rattle.fields.specs.Read.{placed, readField}
 use Rattle.fields.specs.Refusals.{numberOf}
 use Rattle.fields.specs.Write.{writeField}
 use Rattle.capi.specs.Fronts.{atMost, front, largestByte, largestPair}
 
 abbrev pub fieldPlaces : ℕ
 fieldPlaces = 7
+
+abbrev pub readPlaces : ℕ
+readPlaces = 8
 
 abbrev pub tooShort : ℕ
 tooShort = numberOf OutputTooShort
@@ -49,11 +53,11 @@ abbrev pub readLeft : ℕ → List ℕ → ReadLeft
 readLeft returns field = record { returns = returns; field = field }
 
 abbrev pub readTold : Read → List ℕ → ReadLeft
-readTold (read.Got f) field = readLeft 0 (front (listOf f) field)
-readTold (read.Refused r) field = readLeft (numberOf r) field
+readTold (read.Got f offset) field = readLeft 0 (front (listOf f ++ (offset ∷ [])) field)
+readTold (read.Refused r offset) field = readLeft (numberOf r) (set field fieldPlaces offset)
 
-unfoldable pub readCall : List ℕ → List ℕ → ReadLeft
-readCall part field = cond (leb fieldPlaces (length field)) (readTold (readField part) field) (readLeft tooShort field)
+unfoldable pub readCall : List ℕ → ℕ → List ℕ → ReadLeft
+readCall part place field = cond (leb readPlaces (length field)) (readTold (placed place (readField part)) field) (readLeft tooShort field)
 
 -- ---- writing: the number returned, the output, and the list whose front is the number of bytes written
 pub record WriteLeft : Type 0 where

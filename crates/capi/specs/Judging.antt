@@ -8,7 +8,7 @@ use mathlib.Core.List.{List, [], _∷_}
 use mathlib.Core.Path.{_≡_}
 use Rattle.rules.specs.declared.Tally.{Tally}
 use Rattle.rules.specs.declared.Verdict.{Verdict}
-use Rattle.rules.specs.declared.Verdict.the-variants.{Accepted, Raced, Refused}
+use Rattle.rules.specs.declared.Verdict.the-variants.{Accepted, Raced, Refused, Declined}
 use Rattle.rules.specs.Judging.{Lent, judgeLog, lent}
 use Rattle.rules.specs.Verdicts.{lineOf}
 use Rattle.capi.specs.Fronts.{front}
@@ -40,8 +40,9 @@ left returns pointers selectors variables numbers status tally answer =
 -- ---- what the calls return
 abbrev pub kindOf : Verdict → ℕ
 kindOf (Accepted fields mallocs live) = 0
-kindOf (Raced field thread variable) = 1
-kindOf (Refused r field) = 2
+kindOf (Raced field thread variable offset) = 1
+kindOf (Refused r field offset) = 2
+kindOf (Declined r) = 2
 
 -- the tally or the answer is too short, and nothing was looked at or touched
 abbrev pub noRoom : ℕ
@@ -52,7 +53,7 @@ abbrev pub tallyPlaces : ℕ
 tallyPlaces = 3
 
 abbrev pub answerPlaces : ℕ
-answerPlaces = 3
+answerPlaces = 4
 
 abbrev pub hasRoom : List ℕ → List ℕ → Bool
 hasRoom tally answer = leb tallyPlaces (length tally) && leb answerPlaces (length answer)

@@ -17,6 +17,9 @@ use fields::write_field;
 // Tag, thread, first, second, third, cell, number.
 const FIELD: usize = 7;
 
+// These, and the byte offset of what was read.
+const READ: usize = FIELD + 1;
+
 const DONE: u32 = 0;
 
 fn field_in(field: &[u32]) -> Field
@@ -35,14 +38,14 @@ fn field_in(field: &[u32]) -> Field
 }
 
 #[no_mangle]
-pub extern "C" fn thawhazel_read_field(part: &[u8], field: &mut [u32]) -> u32
-    ensures { λ r. ⌜ readLeft r (now (field .exit)) ≡ readCall (now (part .entry)) (now (field .entry)) ⌝ }
+pub extern "C" fn thawhazel_read_field(part: &[u8], place: u32, field: &mut [u32]) -> u32
+    ensures { λ r. ⌜ readLeft r (now (field .exit)) ≡ readCall (now (part .entry)) place (now (field .entry)) ⌝ }
 {
-    if field.len() < FIELD {
+    if field.len() < READ {
         return Refusal::OutputTooShort.number() as u32;
     }
-    match read_field(part) {
-        Read::Got(f) => {
+    match read_field(part, place) {
+        Read::Got(f, offset) => {
             let list = [
                 f.tag as u32,
                 f.thread as u32,
@@ -51,11 +54,15 @@ pub extern "C" fn thawhazel_read_field(part: &[u8], field: &mut [u32]) -> u32
                 f.third as u32,
                 f.cell.0 as u32,
                 f.number,
+                offset,
             ];
             put_front(field, &list);
             DONE
         }
-        Read::Refused(why) => why.number() as u32,
+        Read::Refused(why, offset) => {
+            field[FIELD] = offset;
+            why.number() as u32
+        }
     }
 }
 

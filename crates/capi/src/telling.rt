@@ -45,14 +45,15 @@ fn kind_of(verdict: Verdict) -> u32
 {
     match verdict {
         Verdict::Accepted(_, _, _) => ACCEPTED,
-        Verdict::Raced(_, _, _) => RACE,
-        Verdict::Refused(_, _) => REFUSED,
+        Verdict::Raced(_, _, _, _) => RACE,
+        Verdict::Refused(_, _, _) => REFUSED,
+        Verdict::Declined(_) => REFUSED,
     }
 }
 
 // The verdict's numbers, as they are printed, at the front of the answer.
 fn put_numbers(verdict: Verdict, answer: &mut [u32])
-    requires { ⌜ 3 ≤ length (now answer) ⌝ }
+    requires { ⌜ 4 ≤ length (now answer) ⌝ }
     ensures { λ _. ⌜ now (answer .exit) ≡ front (lineOf verdict .numbers) (now (answer .entry)) ⌝ }
 {
     let printed = verdict.printed();
@@ -62,7 +63,7 @@ fn put_numbers(verdict: Verdict, answer: &mut [u32])
 }
 
 pub fn tell(judged: Judged, tally: &mut [u32], answer: &mut [u32]) -> u32
-    requires { ⌜ (3 ≤ length (now tally)) × (3 ≤ length (now answer)) ⌝ }
+    requires { ⌜ (3 ≤ length (now tally)) × (4 ≤ length (now answer)) ⌝ }
     ensures { λ r. ⌜ Tells (judged .verdict) (judged .tally) (now (tally .entry)) (now (answer .entry)) r (now (tally .exit)) (now (answer .exit)) ⌝ }
 {
     let verdict = judged.verdict;

@@ -13,6 +13,9 @@ const BEFORE: u8 = 0xee;
 
 const ROOM: usize = 24;
 
+// The place of every part that is read: the last of the longest log.
+const PLACE: u32 = 45_055;
+
 fn word(text: &[u8]) {
     io::write_all(STDOUT_FILENO, text);
 }
@@ -33,21 +36,27 @@ fn show_bytes(bytes: &[u8; ROOM]) {
     }
 }
 
+fn show_field(f: Field) {
+    word(b"got");
+    number(f.tag as u64);
+    number(f.thread as u64);
+    number(f.first as u64);
+    number(f.second as u64);
+    number(f.third as u64);
+    number(f.cell.0 as u64);
+    number(f.number as u64);
+}
+
 fn show_read(part: &[u8]) {
-    match fields::read_field(part) {
-        Read::Got(f) => {
-            word(b"got");
-            number(f.tag as u64);
-            number(f.thread as u64);
-            number(f.first as u64);
-            number(f.second as u64);
-            number(f.third as u64);
-            number(f.cell.0 as u64);
-            number(f.number as u64);
+    match fields::read_field(part, PLACE) {
+        Read::Got(f, offset) => {
+            show_field(f);
+            number(offset as u64);
         }
-        Read::Refused(why) => {
+        Read::Refused(why, offset) => {
             word(b"refused");
             number(why.number() as u64);
+            number(offset as u64);
         }
     }
     word(b"\n");

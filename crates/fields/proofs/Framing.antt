@@ -10,8 +10,6 @@ use lib.Seq.{drop-drop}
 use Rattle.fields.specs.declared.rows.Row.{Row}
 use Rattle.fields.specs.declared.Field.{Field}
 use Rattle.fields.specs.declared.Refusal.{Refusal}
-use Rattle.fields.specs.declared.Read.{Read}
-use Rattle.fields.specs.declared.Read.the-variants.{Got, Refused}
 use Rattle.fields.specs.declared.checks.Checked.{Checked}
 use Rattle.fields.specs.declared.checks.Checked.the-variants.{Passed, Failed}
 use Rattle.fields.specs.declared.frame.Frame.{Frame}
@@ -21,7 +19,8 @@ use Rattle.fields.specs.Bytes.{fromBytes, unpack}
 use Rattle.fields.specs.Rows.{isPresent, lengthOf, rowOf, widthIf, widthsOf}
 use Rattle.fields.specs.Numbers.{fieldWith}
 use Rattle.fields.specs.Checks.{valueChecks}
-use Rattle.fields.specs.Read.{fieldOf, framingChecks, readField, tagIn, valueIn}
+use Rattle.fields.specs.declared.Read.the-variants as told
+use Rattle.fields.specs.Read.{Got, Reading, Refused, fieldOf, framingChecks, placed, readField, tagIn, valueIn}
 use Rattle.fields.proofs.Digits.{byte-at}
 use Rattle.fields.proofs.Passing.{all-passed, in-order-append, in-order-map}
 
@@ -46,11 +45,11 @@ whole s tag e =
     }
 
 -- ---- what reading comes to, by its frame, and by the checks of the value
-abbrev pub checked : Field → Checked → Read
+abbrev pub checked : Field → Checked → Reading
 checked f Passed = Got f
 checked f (Failed r) = Refused r
 
-abbrev valued : List ℕ → Frame → Read
+abbrev valued : List ℕ → Frame → Reading
 valued s (Framed tag) = let f = fieldOf tag (valueIn s) in checked f (inOrder Failed Passed (valueChecks (rowOf tag) f))
 valued s (Unframed r) = Refused r
 
@@ -59,7 +58,7 @@ unfolding readField
 read-frame s =
     let f = fieldOf (tagIn s) (valueIn s) in
     in-order-append Refused (Got f) (framingChecks s) (valueChecks (rowOf (tagIn s)) f)
-    ∙ ap (λ (r : Read). inOrder Refused r (framingChecks s)) (sym (in-order-map (checked f) Failed Passed (valueChecks (rowOf (tagIn s)) f)))
+    ∙ ap (λ (r : Reading). inOrder Refused r (framingChecks s)) (sym (in-order-map (checked f) Failed Passed (valueChecks (rowOf (tagIn s)) f)))
     ∙ sym (in-order-map (valued s) Unframed (Framed (tagIn s)) (framingChecks s))
 
 pub read-framed : (s v : List ℕ) (tag : ℕ) (r : Row) (f : Field) (k : Checked) → framing s ≡ Framed tag → r ≡ rowOf tag → v ≡ valueIn s
@@ -82,3 +81,15 @@ pub read-numbers : (tag : ℕ) (r : Row) (v : List ℕ) (w₁ w₂ w₃ w₄ fir
 unfolding widthsOf
 read-numbers tag r v w₁ w₂ w₃ w₄ first second third cell number some e₁ e₂ e₃ e₄ f s t c n =
     rw (f, s, t, c, n, e₁, e₂, e₃, e₄, sym (byte-at v 0 some)) (simp drop-drop)
+
+-- ---- what the reader tells, with its part's place
+pub placed-got : (at : ℕ) (x : Reading) (f : Field) (offset : ℕ) → placed at x ≡ told.Got f offset → x ≡ Got f
+placed-got at (Got g) f offset e = let same : g ≡ f = cc in ap Got same
+placed-got at (Refused r) f offset e = absurd (let z : _≡_ {A = ℕ} 0 1 = cc in omega arith)
+
+pub placed-refused : (at : ℕ) (x : Reading) (r : Refusal) (offset : ℕ) → placed at x ≡ told.Refused r offset → (x ≡ Refused r) × (offset ≡ at)
+placed-refused at (Got g) r offset e = absurd (let z : _≡_ {A = ℕ} 0 1 = cc in omega arith)
+placed-refused at (Refused q) r offset e =
+    let same : q ≡ r = cc in
+    let there : offset ≡ at = cc in
+    (ap Refused same, there)

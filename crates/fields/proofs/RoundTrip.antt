@@ -13,14 +13,13 @@ use Rattle.fields.specs.declared.rows.Slot.{Slot}
 use Rattle.fields.specs.declared.rows.Slot.the-variants.{Absent, Pointer, Data, Selector}
 use Rattle.fields.specs.declared.Field.{Field}
 use Rattle.fields.specs.declared.Refusal.{Refusal}
-use Rattle.fields.specs.declared.Read.the-variants.{Got, Refused}
 use Rattle.fields.specs.declared.Written.the-variants.{Bytes}
 use Rattle.fields.specs.Every.{AreBytes, Every}
 use Rattle.fields.specs.Bytes.{pack, toBytes, total, unpack}
 use Rattle.fields.specs.Rows.{isPresent, isTag, lengthOf, rowOf, widthIf, widthsOf}
 use Rattle.fields.specs.Numbers.{Held, fieldWith, itself, numbersOf, present}
 use Rattle.fields.specs.Checks.{isCell, isNamed, isSelected, valueChecks}
-use Rattle.fields.specs.Read.{fieldOf, framingChecks, readField, tagIn, valueIn}
+use Rattle.fields.specs.Read.{Got, Refused, fieldOf, framingChecks, readField, tagIn, valueIn}
 use Rattle.fields.specs.Write.{Writing, fieldBytes, writeField, writing, writingChecks}
 use Rattle.fields.proofs.Digits.{length-pack}
 use Rattle.fields.proofs.Packing.{Fit, cap, fit-unpack, pack-unpack, unpack-pack}

@@ -8,13 +8,18 @@ use Rattle.fields.specs.declared.Field.{Field}
 use Rattle.fields.specs.declared.Refusal.{Refusal}
 use Rattle.fields.specs.declared.Refusal.the-variants.{CutShort, UnknownTag, WrongLength}
 use Rattle.fields.specs.declared.Read.{Read}
-use Rattle.fields.specs.declared.Read.the-variants.{Got, Refused}
+use Rattle.fields.specs.declared.Read.the-variants as told
 use Rattle.fields.specs.Limits.{headerBytes}
 use Rattle.fields.specs.Order.{Test, test, inOrder}
 use Rattle.fields.specs.Bytes.{fromBytes, unpack}
 use Rattle.fields.specs.Rows.{rowOf, isTag, widthsOf, lengthOf}
 use Rattle.fields.specs.Numbers.{fieldWith}
 use Rattle.fields.specs.Checks.{valueChecks}
+
+-- what the field at the front of a part reads as
+pub data Reading : Type 0 where
+  Got : Field → Reading
+  Refused : Refusal → Reading
 
 abbrev pub tagIn : List ℕ → ℕ
 tagIn s = getD s 0 0
@@ -37,7 +42,12 @@ framingChecks s =
     ∷ test (leb (lengthOf (tagIn s)) (length (valueIn s))) CutShort
     ∷ []
 
-unfoldable pub readField : List ℕ → Read
+unfoldable pub readField : List ℕ → Reading
 readField s =
     let f = fieldOf (tagIn s) (valueIn s) in
     inOrder Refused (Got f) (framingChecks s ++ valueChecks (rowOf (tagIn s)) f)
+
+-- as the reader tells it: the place of the part in the log is the field's byte offset, and that of a refusal
+abbrev pub placed : ℕ → Reading → Read
+placed place (Got f) = told.Got f place
+placed place (Refused r) = told.Refused r place

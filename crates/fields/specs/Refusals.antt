@@ -1,8 +1,8 @@
--- The number that document 01 gives each refusal ("Verdicts and their order").
+-- The number that document 01 ("Verdicts and their order") or an order (docs/02-orders.md) gives each refusal.
 -- Assumes nothing.
 use Prim.Native.Nat.{ℕ}
 use Rattle.fields.specs.declared.Refusal.{Refusal}
-use Rattle.fields.specs.declared.Refusal.the-variants.{LogTooLong, BufferTooShort, TooManyFields, CutShort, UnknownTag, WrongLength, UnknownThread, ForeignVariable, UnknownSelector, UnknownCell, TooManyMallocs, UnsetPointer, LiveCell, AssertionFails, OutputTooShort}
+use Rattle.fields.specs.declared.Refusal.the-variants.{LogTooLong, BufferTooShort, TooManyFields, CutShort, UnknownTag, WrongLength, UnknownThread, ForeignVariable, UnknownSelector, UnknownCell, TooManyMallocs, UnsetPointer, LiveCell, AssertionFails, OutputTooShort, FieldNotReached}
 
 abbrev pub numberOf : Refusal → ℕ
 -- log longer than 45,056 bytes
@@ -35,3 +35,5 @@ numberOf LiveCell = 13
 numberOf AssertionFails = 14
 -- output shorter than what is to be written
 numberOf OutputTooShort = 15
+-- a field to be shown is not reached by the reading checks, or the log ends before it
+numberOf FieldNotReached = 16

@@ -73,7 +73,7 @@ impl Field {
     pub const SELECTORS: u8 = 2;
 }
 
-// Why a log, a field or a buffer is refused, in the order of document 01's numbers.
+// Why a log, a field or a buffer is refused, in the order of the numbers of document 01 and of the orders.
 pub enum Refusal {
     LogTooLong,
     BufferTooShort,
@@ -90,10 +90,11 @@ pub enum Refusal {
     LiveCell,
     AssertionFails,
     OutputTooShort,
+    FieldNotReached,
 }
 
 impl Refusal {
-    // The number that document 01 gives a refusal.
+    // The number that document 01, or an order, gives a refusal.
     pub fn number(self) -> u8
         ensures { λ n. ⌜ n ≡ numberOf self ⌝ }
     {
@@ -113,14 +114,15 @@ impl Refusal {
             Refusal::LiveCell => 13,
             Refusal::AssertionFails => 14,
             Refusal::OutputTooShort => 15,
+            Refusal::FieldNotReached => 16,
         }
     }
 }
 
-// What one field at the front of a part reads as.
+// What one field at the front of a part reads as, with the place of the part in the log: the field's byte offset.
 pub enum Read {
-    Got(Field),
-    Refused(Refusal),
+    Got(Field, u32),
+    Refused(Refusal, u32),
 }
 
 // What writing one field did: so many bytes were written, or none.

@@ -4,7 +4,7 @@ ghost use Prim.Native.Nat.{_≤_};
 ghost use lib.ListN.{length};
 ghost use Rattle.fields.specs.Bytes.{total, unpack};
 ghost use Rattle.fields.specs.Numbers.{fieldWith};
-ghost use Rattle.fields.specs.Read.{readField};
+ghost use Rattle.fields.specs.Read.{placed, readField};
 ghost use Rattle.fields.specs.Rows.{widthsOf};
 use super::Field;
 use super::Read;
@@ -43,19 +43,19 @@ fn field_of(tag: u8, row: Row, value: &[u8]) -> Field
     }
 }
 
-// One field at the front of a part, or why it cannot be read. Nothing is changed.
-pub fn read_field(part: &[u8]) -> Read
-    ensures { λ r. ⌜ r ≡ readField (now (part .entry)) ⌝ }
+// One field at the front of a part that stands at this place of a log, or why it cannot be read. Nothing is changed.
+pub fn read_field(part: &[u8], place: u32) -> Read
+    ensures { λ r. ⌜ r ≡ placed place (readField (now (part .entry))) ⌝ }
 {
     match frame_of(part) {
         Frame::Framed(tag) => {
             let row = row_of(tag);
             let field = field_of(tag, row, value_of(part));
             match check_value(row, field) {
-                Checked::Passed => Read::Got(field),
-                Checked::Failed(why) => Read::Refused(why),
+                Checked::Passed => Read::Got(field, place),
+                Checked::Failed(why) => Read::Refused(why, place),
             }
         }
-        Frame::Unframed(why) => Read::Refused(why),
+        Frame::Unframed(why) => Read::Refused(why, place),
     }
 }

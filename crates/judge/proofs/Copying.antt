@@ -12,13 +12,12 @@ use native.Mathlib.Omega.{arith}
 use Rattle.fields.proofs.Passing.{Passes}
 use Rattle.fields.proofs.Writing.{length-fieldBytes, writes}
 use Rattle.fields.specs.declared.Field.{Field}
-use Rattle.fields.specs.declared.Read.the-variants.{Got, Refused}
 use Rattle.fields.specs.declared.Refusal.{Refusal}
 use Rattle.fields.specs.declared.Written.{Written}
 use Rattle.fields.specs.Checks.{isCell, valueChecks}
 use Rattle.fields.specs.Every.{Every}
 use Rattle.fields.specs.Limits.{cells, headerBytes}
-use Rattle.fields.specs.Read.{readField}
+use Rattle.fields.specs.Read.{Got, Refused, readField}
 use Rattle.fields.specs.Rows.{lengthOf, rowOf}
 use Rattle.fields.specs.Write.{Writing, fieldBytes, writeField, writing}
 use Rattle.rules.proofs.Checks.{Clear, each-stops, passedBy, race-stops}

@@ -19,7 +19,7 @@ use Rattle.rules.specs.State.{fresh, store, write}
 use Rattle.rules.specs.Commands.{commandOf}
 use Rattle.rules.specs.Check.{checkBy, sameAsWanted}
 use Rattle.rules.specs.Effect.{countField, free, give}
-use Rattle.rules.specs.Log.{runBytes}
+use Rattle.rules.specs.Log.{located, runBytes}
 use Rattle.rules.specs.Cases.{bytesC}
 use Rattle.rules.specs.Judging.{Judged, judgeLog, judged, lent, longEnough, showing}
 use Rattle.judge.specs.Judges.{Judges}
@@ -43,7 +43,7 @@ module _ (pointers selectors variables numbers status : List ℕ) (tally : Tally
     (v : Verdict) (t : Tally) (p s x n u : List ℕ) where
   -- a result that the contract allows for a log that is not too long
   result : (log : List ℕ) → length log ≤ logBytes → Judges log pointers selectors variables numbers status tally v t p s x n u
-      → judged v (lent p s x n u t) ≡ judged (runBytes logFields log fresh .verdict) (showing (runBytes logFields log fresh .state) (lent pointers selectors variables numbers status tally))
+      → judged v (lent p s x n u t) ≡ judged (located log (runBytes logFields log fresh .verdict)) (showing (runBytes logFields log fresh .state) (lent pointers selectors variables numbers status tally))
   unfolding judgeLog
   result log short e = e ∙ rw (le-leb (length log) logBytes short, long)
 
@@ -53,7 +53,7 @@ module _ (pointers selectors variables numbers status : List ℕ) (tally : Tally
   not-refused-nor-made-up e = ap (λ (j : Judged). j .verdict) (result bytesB (omega arith) e)
 
   -- one that always says accepted, and one that applies only the first field and then merely counts: C races at its last field
-  pub not-accepted-nor-counted : Judges bytesC pointers selectors variables numbers status tally v t p s x n u → v ≡ Raced 3 1 24
+  pub not-accepted-nor-counted : Judges bytesC pointers selectors variables numbers status tally v t p s x n u → v ≡ Raced 3 1 24 22
   unfolding rowOf isTag widthsOf lengthOf mayName fieldOf readField isValid cellOf isUnset invalidated afterFree fresh write store commandOf sameAsWanted checkBy give free countField
   not-accepted-nor-counted e = ap (λ (j : Judged). j .verdict) (result bytesC (omega arith) e)
 

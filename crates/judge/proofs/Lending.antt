@@ -14,10 +14,9 @@ use Rattle.heap.specs.Boards.{withFront}
 use Rattle.rules.specs.declared.Board.{Board}
 use Rattle.rules.specs.declared.Tally.{Tally}
 use Rattle.rules.specs.declared.Verdict.{Verdict}
-use Rattle.rules.specs.declared.Verdict.the-variants.{Refused}
+use Rattle.rules.specs.declared.Verdict.the-variants.{Declined}
 use Rattle.rules.specs.Judging.{Lent, judgeLog, judged, lent, longEnough, showing}
-use Rattle.rules.specs.Log.{runBytes}
-use Rattle.rules.specs.Run.{Outcome}
+use Rattle.rules.specs.Log.{located, runBytes}
 use Rattle.rules.specs.State.{State, boardPointers, boardVariables, fresh, freshBoard, freshHeap, freshTally, heapSelectors, neverUsed, stateOf}
 use Rattle.rules.specs.Words.{unset}
 use Rattle.judge.specs.Judges.{LongEnough, shown}
@@ -61,7 +60,7 @@ fresh-counts s n t e =
 
 -- ---- what is lent, once the run has ended and the board is copied out
 pub run-shown : (log p s v n t : List ℕ) (tally : Tally) → LongEnough p s v n t → (verdict : Verdict) (board : Board) (tally′ : Tally) (p′ s′ v′ n′ t′ : List ℕ)
-    → _≡_ {A = Outcome} (record { verdict = verdict; state = stateOf board tally′ s′ n′ t′ }) (runBytes logFields log fresh) → Counts tally′ t′
+    → (verdict ≡ located log (runBytes logFields log fresh .verdict)) × (stateOf board tally′ s′ n′ t′ ≡ runBytes logFields log fresh .state) → Counts tally′ t′
     → p′ ≡ withFront boardPointers (board .pointers) p → v′ ≡ withFront boardVariables (board .variables) v
     → judged verdict (lent p′ (s′ ++ drop heapSelectors s) v′ (n′ ++ drop cells n) (t′ ++ drop cells t) tally′) ≡ shown log (lent p s v n t tally)
 unfolding shown
@@ -69,14 +68,15 @@ run-shown log p s v n t tally fit verdict board tally′ p′ s′ v′ n′ t�
     let left = showing (stateOf board tally′ s′ n′ t′) (lent p s v n t tally) in
     rw (e, f, le-leb boardPointers (length p) (fit .pointers-fit), le-leb boardVariables (length v) (fit .variables-fit))
     (ap (λ (live : ℕ). judged verdict (lent (left .pointers) (left .selectors) (left .variables) (left .numbers) (left .status) (record { fields = tally′ .fields; mallocs = tally′ .mallocs; live = live }))) (counts .kept)
-    ∙ ap (λ (o : Outcome). judged (o .verdict) (showing (o .state) (lent p s v n t tally))) ran)
+    ∙ ap (λ (w : Verdict). judged w left) (ran .0)
+    ∙ ap (λ (e : State). judged (located log (runBytes logFields log fresh .verdict)) (showing e (lent p s v n t tally))) (ran .1))
 
 -- ---- the verdicts
-pub judged-too-long : (log : List ℕ) (l : Lent) → leb (length log) logBytes ≡ false → judged (Refused LogTooLong 0) l ≡ judgeLog log l
+pub judged-too-long : (log : List ℕ) (l : Lent) → leb (length log) logBytes ≡ false → judged (Declined LogTooLong) l ≡ judgeLog log l
 unfolding judgeLog
 judged-too-long log l h = rw h
 
-pub judged-too-short : (log : List ℕ) (l : Lent) → leb (length log) logBytes ≡ true → longEnough l ≡ false → judged (Refused BufferTooShort 0) l ≡ judgeLog log l
+pub judged-too-short : (log : List ℕ) (l : Lent) → leb (length log) logBytes ≡ true → longEnough l ≡ false → judged (Declined BufferTooShort) l ≡ judgeLog log l
 unfolding judgeLog
 judged-too-short log l h e = rw (h, e)
 

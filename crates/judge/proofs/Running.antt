@@ -12,32 +12,31 @@ use native.Mathlib.Nat.{not-suc-le-zero}
 use native.Mathlib.Omega.{arith}
 use Rattle.fields.proofs.Passing.{Passes, all-passed, every-cut}
 use Rattle.fields.specs.declared.Field.{Field}
-use Rattle.fields.specs.declared.Read.the-variants.{Got, Refused}
 use Rattle.fields.specs.declared.Refusal.{Refusal}
 use Rattle.fields.specs.declared.Refusal.the-variants.{TooManyFields}
 use Rattle.fields.specs.Checks.{valueChecks}
 use Rattle.fields.specs.Every.{Every}
 use Rattle.fields.specs.Limits.{headerBytes, logFields}
-use Rattle.fields.specs.Read.{fieldOf, framingChecks, readField, tagIn, valueIn}
+use Rattle.fields.specs.Read.{Got, Refused, fieldOf, framingChecks, readField, tagIn, valueIn}
 use Rattle.fields.specs.Rows.{isTag, lengthOf, rowOf}
 use Rattle.rules.proofs.Tallies.{counted}
 use Rattle.rules.specs.declared.Answer.{Answer}
 use Rattle.rules.specs.declared.Answer.the-variants.{Go, Race, Refuse}
 use Rattle.rules.specs.declared.Verdict.{Verdict}
-use Rattle.rules.specs.declared.Verdict.the-variants.{Accepted, Refused as RefusedAt}
 use Rattle.rules.specs.Check.{check}
 use Rattle.rules.specs.Commands.{actOf}
 use Rattle.rules.specs.Effect.{effect}
-use Rattle.rules.specs.Log.{runBytes}
-use Rattle.rules.specs.Run.{Outcome, liveCount, next}
+use Rattle.rules.specs.Log.{endField, located, offsetOf, runBytes, toldAt}
+use Rattle.rules.specs.Run.{Accepted, Ending, Outcome, Raced, Refused as RefusedAt, liveCount, next}
 use Rattle.rules.specs.State.{State}
 use Rattle.judge.specs.declared.run.Next.{Next}
 use Rattle.judge.specs.declared.run.Next.the-variants.{On, Ended}
-use Rattle.judge.specs.Runs.{Onward, followed, nextAfter, readAfter, runFrom}
+use Rattle.judge.specs.Runs.{Following, Onward, ended, followed, nextAfter, nextTold, on, readAfter, runFrom}
 use Rattle.judge.specs.Steps.{Step, stateAfter, stepOf}
 
 -- ---- a field that was read lies within the bytes, and it passed the checks
 pub record Passed (s : List ℕ) (f : Field) : Type 0 where
+  pub tag : tagIn s ≡ f .tag
   pub fits : headerBytes + lengthOf (f .tag) ≤ length s
   pub known : isTag (f .tag) ≡ true
   pub right : Every Passes (valueChecks (rowOf (f .tag)) f)
@@ -53,6 +52,7 @@ got-passed s f e =
     let header = leb-true 3 (length s) (p .0 .0) in
     let value = leb-true (lengthOf (tagIn s)) (length (valueIn s)) (p .0 .1 .1 .1 .0) in
     record {
+      tag = tag;
       fits = rw (← tag) (omega (arith, length-drop 3 s));
       known = rw (← tag) (p .0 .1 .0);
       right = rw (← same) (every-cut Passes (framingChecks s) (valueChecks (rowOf (tagIn s)) g) (p .0) .1);
@@ -140,11 +140,11 @@ module _ (l : List ℕ) (at : ℕ) (within : at < length l) where
     turn-onward = rw stepped (onward-by (check (actOf f) s))
 
   -- ---- the loop: what a turn gives carries on, or ends
-  module _ (x : Next) (s t : State) (o : Outcome) (k m : ℕ) (turned : (n : ℕ) → followed n x l t ≡ runFrom (suc n) (drop at l) s) (fuel : k ≡ suc m) (whole : runFrom k (drop at l) s ≡ o) where
-    pub loop-on : (b : ℕ) → x ≡ On b → runFrom m (drop b l) t ≡ o
+  module _ (x : Following) (s t : State) (o : Outcome) (k m : ℕ) (turned : (n : ℕ) → followed n x l t ≡ runFrom (suc n) (drop at l) s) (fuel : k ≡ suc m) (whole : runFrom k (drop at l) s ≡ o) where
+    pub loop-on : (b : ℕ) → x ≡ on b → runFrom m (drop b l) t ≡ o
     loop-on b e = (rw e at (turned m)) ∙ (rw fuel at whole)
 
-    pub loop-ended : (v : Verdict) → x ≡ Ended v → _≡_ {A = Outcome} (record { verdict = v; state = t }) o
+    pub loop-ended : (v : Ending) → x ≡ ended v → _≡_ {A = Outcome} (record { verdict = v; state = t }) o
     loop-ended v e = (rw e at (turned m)) ∙ (rw fuel at whole)
 
   pub loop-stopped : (s : State) (o : Outcome) (k : ℕ) (r : Refusal) → k ≡ logFields - s .fields → runFrom k (drop at l) s ≡ o → readAfter (s .fields) (drop at l) ≡ Refused r
@@ -154,5 +154,38 @@ module _ (l : List ℕ) (at : ℕ) (within : at < length l) where
 pub loop-end : (l : List ℕ) (at : ℕ) (s : State) (o : Outcome) (n c : ℕ) → length l ≤ at → runFrom n (drop at l) s ≡ o → c ≡ liveCount (s .status) → _≡_ {A = Outcome} (record { verdict = Accepted (s .fields) (s .mallocs) c; state = s }) o
 loop-end l at s o n c past whole count = rw count (sym (run-none n s) ∙ (rw (drop-of-length-le l {i = at} past) at whole))
 
-pub onward-on : (x : Next) (b at end : ℕ) (t t′ : State) → x ≡ On b → Onward x at end t t′ → Onward (On b) at end t t′
+pub onward-on : (x : Following) (b at end : ℕ) (t t′ : State) → x ≡ on b → Onward x at end t t′ → Onward (on b) at end t t′
 onward-on x b at end t t′ e h = rw e at h
+
+-- ---- what the code tells of what follows
+pub told-on : (k : Answer) (n : ℕ) (f : Field) (at b : ℕ) → nextTold at (nextAfter k n f at) ≡ On b → (nextAfter k n f at ≡ on b) × (b ≡ at + (headerBytes + lengthOf (f .tag)))
+told-on Go n f at b e = let same : at + (headerBytes + lengthOf (f .tag)) ≡ b = cc in (ap on same, sym same)
+told-on (Race p) n f at b e = absurd (let z : _≡_ {A = ℕ} 0 1 = cc in omega arith)
+told-on (Refuse r) n f at b e = absurd (let z : _≡_ {A = ℕ} 0 1 = cc in omega arith)
+
+pub told-ended : (k : Answer) (n : ℕ) (f : Field) (at : ℕ) (v : Verdict) → nextTold at (nextAfter k n f at) ≡ Ended v
+    → (ending : Ending) × (nextAfter k n f at ≡ ended ending) × (v ≡ toldAt at ending) × (endField ending ≡ n)
+told-ended Go n f at v e = absurd (let z : _≡_ {A = ℕ} 0 1 = cc in omega arith)
+told-ended (Race p) n f at v e = let same : toldAt at (Raced n (f .thread) p) ≡ v = cc in (Raced n (f .thread) p, refl, sym same, refl)
+told-ended (Refuse r) n f at v e = let same : toldAt at (RefusedAt r n) ≡ v = cc in (RefusedAt r n, refl, sym same, refl)
+
+-- ---- where a field begins
+pub offset-next : (n : ℕ) (log : List ℕ) → offsetOf (suc n) log ≡ offsetOf n log + (headerBytes + lengthOf (tagIn (drop (offsetOf n log) log)))
+offset-next zero log = omega arith
+offset-next (suc n) log =
+    let size = headerBytes + lengthOf (tagIn log) in
+    let later = offset-next n (drop size log) in
+    let there : drop (offsetOf n (drop size log)) (drop size log) ≡ drop (size + offsetOf n (drop size log)) log = drop-drop (offsetOf n (drop size log)) size log in
+    omega (arith, rw there at later)
+
+pub offset-on : (n m : ℕ) (log : List ℕ) (at b : ℕ) (f : Field) → at ≡ offsetOf n log → readField (drop at log) ≡ Got f → b ≡ at + (headerBytes + lengthOf (f .tag)) → m ≡ n + 1 → b ≡ offsetOf m log
+offset-on n m log at b f here read place counted =
+    let tag : tagIn (drop at log) ≡ f .tag = got-passed (drop at log) f read .tag in
+    let later : m ≡ suc n = omega arith in
+    let step = offset-next n log in
+    rw later (omega (arith, place, here, rw (← here, tag) at step))
+
+-- an outcome, told with the place of its field
+pub told-outcome : (log : List ℕ) (o : Outcome) (ending : Ending) (s : State) (at : ℕ) → at ≡ offsetOf (endField ending) log → _≡_ {A = Outcome} (record { verdict = ending; state = s }) o
+    → (toldAt at ending ≡ located log (o .verdict)) × (s ≡ o .state)
+told-outcome log o ending s at here same = (rw here (ap (λ (q : Outcome). located log (q .verdict)) same), ap (λ (q : Outcome). q .state) same)

@@ -12,9 +12,9 @@ use Rattle.fields.specs.Order.{inOrder, test}
 use Rattle.rules.proofs.Tallies.{Takes, accepted-tally}
 use Rattle.rules.specs.declared.Tally.{Tally}
 use Rattle.rules.specs.declared.Verdict.{Verdict}
-use Rattle.rules.specs.declared.Verdict.the-variants.{Refused}
+use Rattle.rules.specs.declared.Verdict.the-variants.{Declined}
 use Rattle.rules.specs.Judging.{Judged, Lent, judgeLog, judged, lent, longEnough, showing}
-use Rattle.rules.specs.Log.{parse, runBytes}
+use Rattle.rules.specs.Log.{endField, located, offsetOf, parse, runBytes}
 use Rattle.rules.specs.Run.{Outcome}
 use Rattle.rules.specs.State.{fresh}
 use Rattle.judge.specs.Judges.{Judges}
@@ -28,11 +28,11 @@ told log l = by (leb (length log) logBytes) (longEnough l)
 
     answer : Bool → Bool → Judged
     answer short long =
-        inOrder (λ r. judged (Refused r 0) l) (judged (end .verdict) (showing (end .state) l))
+        inOrder (λ r. judged (Declined r) l) (judged (located log (end .verdict)) (showing (end .state) l))
         (test short LogTooLong ∷ test long BufferTooShort ∷ [])
 
     by : (short long : Bool) → Takes (answer short long .verdict) (answer short long .after .tally)
-    by true true = accepted-tally (parse logFields log .fields) (parse logFields log .end) fresh
+    by true true = accepted-tally (offsetOf (endField (end .verdict)) log) (parse logFields log .fields) (parse logFields log .end) fresh
     by true false = tt
     by false long = tt
 

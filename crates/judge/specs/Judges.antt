@@ -8,7 +8,7 @@ use Rattle.fields.specs.Limits.{cells, logFields}
 use Rattle.rules.specs.declared.Tally.{Tally}
 use Rattle.rules.specs.declared.Verdict.{Verdict}
 use Rattle.rules.specs.Judging.{Judged, Lent, judgeLog, judged, lent, showing}
-use Rattle.rules.specs.Log.{runBytes}
+use Rattle.rules.specs.Log.{located, runBytes}
 use Rattle.rules.specs.State.{boardPointers, boardVariables, fresh, heapSelectors}
 
 -- the log, the buffers and the tally that went in; the verdict, the tally and the buffers that came out
@@ -18,7 +18,7 @@ Judges log pointers selectors variables numbers status tally verdict tally′ po
 
 -- judging where neither the log is too long nor a buffer too short
 unfoldable pub shown : List ℕ → Lent → Judged
-shown log l = let end = runBytes logFields log fresh in judged (end .verdict) (showing (end .state) l)
+shown log l = let end = runBytes logFields log fresh in judged (located log (end .verdict)) (showing (end .state) l)
 
 -- each buffer has its size
 pub record LongEnough (pointers selectors variables numbers status : List ℕ) : Type 0 where

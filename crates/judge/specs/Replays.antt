@@ -7,9 +7,9 @@ use mathlib.Core.Path.{_≡_}
 use Rattle.fields.specs.Limits.{logFields}
 use Rattle.rules.specs.declared.Tally.{Tally}
 use Rattle.rules.specs.declared.Verdict.{Verdict}
-use Rattle.rules.specs.declared.Verdict.the-variants.{Accepted, Raced, Refused}
+use Rattle.rules.specs.Run.{Ending, Accepted, Raced, Refused}
 use Rattle.rules.specs.Judging.{Lent, lent, showing}
-use Rattle.rules.specs.Log.{parse, runBytes}
+use Rattle.rules.specs.Log.{located, parse, runBytes}
 use Rattle.rules.specs.Replay.{bytesOf, replay, replayBytes}
 use Rattle.rules.specs.Replaying.{Replayed, outputAfter, replayLog, replayed}
 use Rattle.rules.specs.State.{State, fresh}
@@ -24,10 +24,10 @@ Replays log out pointers selectors variables numbers status tally verdict tally�
 unfoldable pub written : List ℕ → List ℕ → Lent → Replayed
 written log out l =
     let end = runBytes logFields log fresh in
-    replayed (end .verdict) (outputAfter (end .verdict) log out) (showing (end .state) l)
+    replayed (located log (end .verdict)) (outputAfter (end .verdict) log out) (showing (end .state) l)
 
 -- ---- the output of an accepted log
-abbrev pub IsAccepted : Verdict → Type 0
+abbrev pub IsAccepted : Ending → Type 0
 IsAccepted (Accepted fields mallocs live) = Unit {0}
 IsAccepted (Raced field thread variable) = ⊥
 IsAccepted (Refused r field) = ⊥

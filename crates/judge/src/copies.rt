@@ -92,8 +92,8 @@ fn copy_at(
     ensures { λ r. ⌜ ((n : ℕ) → IsAccepted (runFrom (suc n) (drop at (now (log .entry))) (stateOf board tally (now (selectors .entry)) (now (numbers .entry)) (now (status .entry))) .verdict) → Carried n (now (log .entry)) at (stateOf board tally (now (selectors .entry)) (now (numbers .entry)) (now (status .entry))) (now (out .entry)) (r .at) (stateOf (r .board) (r .tally) (now (selectors .exit)) (now (numbers .exit)) (now (status .exit))) (now (out .exit))) ⌝ }
     ensures { λ r. ⌜ Counts (r .tally) (now (status .exit)) ⌝ }
 {
-    match read_field(&log[at..]) {
-        Read::Got(field) => {
+    match read_field(&log[at..], at as u32) {
+        Read::Got(field, _) => {
             let next = ReplayCell(tally.mallocs as u16);
             let copy = copy_of(field, next, numbers, status);
             write_field(copy, &mut out[at..]);
@@ -107,7 +107,7 @@ fn copy_at(
             }
         }
         // an accepted log has no such field
-        Read::Refused(_) => Copied { at, board, tally },
+        Read::Refused(_, _) => Copied { at, board, tally },
     }
 }
 

@@ -4,7 +4,7 @@ ghost use Prim.Native.Nat.{_≤_};
 ghost use lib.ListN.{length};
 ghost use Rattle.fields.specs.Limits.{cells, logBytes, logFields};
 ghost use Rattle.judge.specs.Judges.{Judges, LongEnough, shown};
-ghost use Rattle.judge.specs.Runs.{ranTo};
+ghost use Rattle.judge.specs.Runs.{RanTo};
 ghost use Rattle.judge.specs.Steps.{Counts};
 ghost use Rattle.rules.specs.Judging.{judged, lent, longEnough};
 ghost use Rattle.rules.specs.Log.{runBytes};
@@ -61,7 +61,7 @@ pub fn refresh(selectors: &mut [u16], numbers: &mut [u32], status: &mut [u8])
 fn run_fresh(log: &[u8], selectors: &mut [u16], numbers: &mut [u32], status: &mut [u8]) -> Ran
     requires { ⌜ length (now log) ≤ logBytes ⌝ }
     requires { ⌜ (length (now selectors) ≡ heapSelectors) × ((length (now numbers) ≡ cells) × (length (now status) ≡ cells)) ⌝ }
-    ensures { λ r. ⌜ ranTo r (now (selectors .exit)) (now (numbers .exit)) (now (status .exit)) ≡ runBytes logFields (now (log .entry)) fresh ⌝ }
+    ensures { λ r. ⌜ RanTo (now (log .entry)) (runBytes logFields (now (log .entry)) fresh) r (now (selectors .exit)) (now (numbers .exit)) (now (status .exit)) ⌝ }
     ensures { λ r. ⌜ Counts (r .tally) (now (status .exit)) ⌝ }
 {
     refresh(selectors, numbers, status);
@@ -110,7 +110,7 @@ pub fn judge_log(
 {
     if Log::BYTES < log.len() {
         return Judged {
-            verdict: Verdict::Refused(Refusal::LogTooLong, 0),
+            verdict: Verdict::Declined(Refusal::LogTooLong),
             tally,
         };
     }
@@ -118,7 +118,7 @@ pub fn judge_log(
         return run_lent(log, pointers, selectors, variables, numbers, status);
     }
     Judged {
-        verdict: Verdict::Refused(Refusal::BufferTooShort, 0),
+        verdict: Verdict::Declined(Refusal::BufferTooShort),
         tally,
     }
 }

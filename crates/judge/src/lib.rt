@@ -10,6 +10,7 @@ mod replay;
 mod run;
 mod step;
 
+pub use acts::act_of;
 pub use lent::judge_log;
 pub use replay::replay_log;
 use rules::Tally;

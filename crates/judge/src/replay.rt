@@ -44,8 +44,9 @@ fn replay_lent(
             );
             judged
         }
-        Verdict::Raced(_, _, _) => judged,
-        Verdict::Refused(_, _) => judged,
+        Verdict::Raced(_, _, _, _) => judged,
+        Verdict::Refused(_, _, _) => judged,
+        Verdict::Declined(_) => judged,
     }
 }
 
@@ -63,21 +64,21 @@ pub fn replay_log(
 {
     if Log::BYTES < log.len() {
         return Judged {
-            verdict: Verdict::Refused(Refusal::LogTooLong, 0),
+            verdict: Verdict::Declined(Refusal::LogTooLong),
             tally,
         };
     }
     if long_enough(pointers, selectors, variables, numbers, status) {
         if out.len() < log.len() {
             return Judged {
-                verdict: Verdict::Refused(Refusal::OutputTooShort, 0),
+                verdict: Verdict::Declined(Refusal::OutputTooShort),
                 tally,
             };
         }
         return replay_lent(log, out, pointers, selectors, variables, numbers, status);
     }
     Judged {
-        verdict: Verdict::Refused(Refusal::BufferTooShort, 0),
+        verdict: Verdict::Declined(Refusal::BufferTooShort),
         tally,
     }
 }

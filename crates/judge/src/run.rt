@@ -3,7 +3,8 @@ ghost use mathlib.Core.Path.{_≡_};
 ghost use Prim.Native.Nat.{_<_, _≤_};
 ghost use lib.ListN.{drop, length};
 ghost use Rattle.fields.specs.Limits.{logBytes, logFields};
-ghost use Rattle.judge.specs.Runs.{nextAfter, ranTo, readAfter};
+ghost use Rattle.fields.specs.Read.{placed};
+ghost use Rattle.judge.specs.Runs.{RanTo, nextAfter, nextTold, readAfter};
 ghost use Rattle.judge.specs.Steps.{Counts};
 ghost use Rattle.rules.specs.Log.{runBytes};
 ghost use Rattle.rules.specs.State.{freshBoard, freshTally, stateOf};
@@ -43,31 +44,33 @@ fn ended(verdict: Verdict, board: Board, tally: Tally) -> Ran
 
 fn next_after(answer: Answer, fields: u32, field: Field, at: usize) -> Next
     requires { ⌜ at ≤ logBytes ⌝ }
-    ensures { λ r. ⌜ r ≡ nextAfter answer fields field at ⌝ }
+    ensures { λ r. ⌜ r ≡ nextTold at (nextAfter answer fields field at) ⌝ }
 {
+    let offset = at as u32;
     match answer {
         Answer::Go => Next::On(at + (Field::HEADER + (value_length(field.tag) as usize))),
-        Answer::Race(p) => Next::Ended(Verdict::Raced(fields, field.thread, p)),
-        Answer::Refuse(why) => Next::Ended(Verdict::Refused(why, fields)),
+        Answer::Race(p) => Next::Ended(Verdict::Raced(fields, field.thread, p, offset)),
+        Answer::Refuse(why) => Next::Ended(Verdict::Refused(why, fields, offset)),
     }
 }
 
 // The field at a place of the log, once check 3 has let it be read.
 fn read_at(log: &[u8], at: usize, fields: u32) -> Read
-    requires { ⌜ at < length (now log) ⌝ }
-    ensures { λ r. ⌜ r ≡ readAfter fields (drop at (now (log .entry))) ⌝ }
+    requires { ⌜ (at < length (now log)) × (length (now log) ≤ logBytes) ⌝ }
+    ensures { λ r. ⌜ r ≡ placed at (readAfter fields (drop at (now (log .entry)))) ⌝ }
 {
+    let offset = at as u32;
     if fields < (Log::FIELDS as u32) {
-        return read_field(&log[at..]);
+        return read_field(&log[at..], offset);
     }
-    Read::Refused(Refusal::TooManyFields)
+    Read::Refused(Refusal::TooManyFields, offset)
 }
 
 // The board is taken back from the step at once and in one place: between a board handed over and one taken back nothing is copied
 // but the board itself.
 pub fn run(log: &[u8], selectors: &mut [u16], numbers: &mut [u32], status: &mut [u8]) -> Ran
     requires { ⌜ (length (now log) ≤ logBytes) × Counts freshTally (now status) ⌝ }
-    ensures { λ r. ⌜ ranTo r (now (selectors .exit)) (now (numbers .exit)) (now (status .exit)) ≡ runBytes logFields (now (log .entry)) (stateOf freshBoard freshTally (now (selectors .entry)) (now (numbers .entry)) (now (status .entry))) ⌝ }
+    ensures { λ r. ⌜ RanTo (now (log .entry)) (runBytes logFields (now (log .entry)) (stateOf freshBoard freshTally (now (selectors .entry)) (now (numbers .entry)) (now (status .entry)))) r (now (selectors .exit)) (now (numbers .exit)) (now (status .exit)) ⌝ }
     ensures { λ r. ⌜ Counts (r .tally) (now (status .exit)) ⌝ }
 {
     let mut board = Board::fresh();
@@ -76,7 +79,7 @@ pub fn run(log: &[u8], selectors: &mut [u16], numbers: &mut [u32], status: &mut 
     while at < log.len() {
         let fields = tally.fields;
         match read_at(log, at, fields) {
-            Read::Got(field) => {
+            Read::Got(field, _) => {
                 let stepped = step(field, board, tally, selectors, numbers, status);
                 board = stepped.board;
                 tally = stepped.tally;
@@ -90,8 +93,8 @@ pub fn run(log: &[u8], selectors: &mut [u16], numbers: &mut [u32], status: &mut 
                     }
                 }
             }
-            Read::Refused(why) => {
-                return ended(Verdict::Refused(why, fields), board, tally);
+            Read::Refused(why, offset) => {
+                return ended(Verdict::Refused(why, fields, offset), board, tally);
             }
         }
     }

@@ -13,8 +13,9 @@ fn write_replay(verdict: Verdict, replay: &[u8]) {
         Verdict::Accepted(_, _, _) => {
             io::write_all(STDOUT_FILENO, replay);
         }
-        Verdict::Raced(_, _, _) => {}
-        Verdict::Refused(_, _) => {}
+        Verdict::Raced(_, _, _, _) => {}
+        Verdict::Refused(_, _, _) => {}
+        Verdict::Declined(_) => {}
     }
 }
 

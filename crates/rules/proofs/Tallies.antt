@@ -17,12 +17,13 @@ use Rattle.rules.specs.declared.Answer.{Answer}
 use Rattle.rules.specs.declared.Answer.the-variants.{Go, Race, Refuse}
 use Rattle.rules.specs.declared.Tally.{Tally}
 use Rattle.rules.specs.declared.Verdict.{Verdict}
-use Rattle.rules.specs.declared.Verdict.the-variants.{Accepted, Raced, Refused}
+use Rattle.rules.specs.declared.Verdict.the-variants.{Accepted, Declined, Raced, Refused}
 use Rattle.rules.specs.State.{State, live, pointer, store, write}
 use Rattle.rules.specs.Words.{isUnset}
 use Rattle.rules.specs.Check.{check}
 use Rattle.rules.specs.Commands.{actOf}
 use Rattle.rules.specs.Effect.{apply, countField, effect, free, give}
+use Rattle.rules.specs.Log.{toldAt}
 use Rattle.rules.specs.Run.{End, Outcome, whole, unread, liveCount, next, runTo, tallyOf}
 
 apply-fields : (c : Change) (s : State) → apply c s .fields ≡ s .fields
@@ -62,17 +63,18 @@ live-at-most (x ∷ xs) = omega (arith, one-at-most (eqb x live), live-at-most x
 -- the numbers of a verdict that accepts are a tally's
 abbrev pub Takes : Verdict → Tally → Type 0
 Takes (Accepted fields mallocs cells) t = t ≡ record { fields = fields; mallocs = mallocs; live = cells }
-Takes (Raced field thread variable) t = Unit {0}
-Takes (Refused r field) t = Unit {0}
+Takes (Raced field thread variable offset) t = Unit {0}
+Takes (Refused r field offset) t = Unit {0}
+Takes (Declined r) t = Unit {0}
 
 -- a field's answer lets the later fields decide, or stops
-next-tally : (k : Answer) (n : ℕ) (f : Field) (s : State) (later : Outcome) → Takes (later .verdict) (tallyOf (later .state))
-    → Takes (next k n f s later .verdict) (tallyOf (next k n f s later .state))
-next-tally Go n f s later h = h
-next-tally (Race v) n f s later h = tt
-next-tally (Refuse r) n f s later h = tt
+next-tally : (at : ℕ) (k : Answer) (n : ℕ) (f : Field) (s : State) (later : Outcome) → Takes (toldAt at (later .verdict)) (tallyOf (later .state))
+    → Takes (toldAt at (next k n f s later .verdict)) (tallyOf (next k n f s later .state))
+next-tally at Go n f s later h = h
+next-tally at (Race v) n f s later h = tt
+next-tally at (Refuse r) n f s later h = tt
 
-pub accepted-tally : (fs : List Field) (end : End) (s : State) → Takes (runTo end fs s .verdict) (tallyOf (runTo end fs s .state))
-accepted-tally [] whole s = refl
-accepted-tally [] (unread r) s = tt
-accepted-tally (f ∷ fs) end s = next-tally (check (actOf f) s) (s .fields) f s (runTo end fs (effect (actOf f) s)) (accepted-tally fs end (effect (actOf f) s))
+pub accepted-tally : (at : ℕ) (fs : List Field) (end : End) (s : State) → Takes (toldAt at (runTo end fs s .verdict)) (tallyOf (runTo end fs s .state))
+accepted-tally at [] whole s = refl
+accepted-tally at [] (unread r) s = tt
+accepted-tally at (f ∷ fs) end s = next-tally at (check (actOf f) s) (s .fields) f s (runTo end fs (effect (actOf f) s)) (accepted-tally at fs end (effect (actOf f) s))

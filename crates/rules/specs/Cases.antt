@@ -12,6 +12,7 @@ use Rattle.fields.specs.Rows.{rowOf, isTag, widthsOf, lengthOf}
 use Rattle.fields.specs.Numbers.{fieldWith, numbersOf}
 use Rattle.fields.specs.Checks.{mayName}
 use Rattle.fields.specs.Read.{fieldOf, readField}
+use Rattle.fields.specs.Write.{fieldBytes}
 use Rattle.rules.specs.declared.Place.{Place}
 use Rattle.rules.specs.declared.Place.the-variants.{PointerWord}
 use Rattle.rules.specs.declared.DataPlace.{DataPlace}
@@ -22,8 +23,8 @@ use Rattle.rules.specs.Commands.{commandOf}
 use Rattle.rules.specs.Check.{sameAsWanted, checkBy}
 use Rattle.rules.specs.Effect.{give, free, countField}
 use Rattle.rules.specs.Run.{run}
-use Rattle.rules.specs.Log.{runBytes}
-use Rattle.rules.specs.Replay.{replay, startingData}
+use Rattle.rules.specs.Log.{located, runBytes}
+use Rattle.rules.specs.Replay.{bytesOf, replay, startingData}
 use Rattle.rules.specs.Verdicts.{accepted, race, refused, Line, line, lineOf}
 
 -- what a case tells besides its verdict: a word or a number of the state that is left, or a field
@@ -67,7 +68,7 @@ factsHold log (fact ∷ facts) = factHolds log (run log fresh .state) fact && fa
 abbrev pub right : List Case → Bool
 right [] = true
 right (c ∷ cs) =
-    sameLine (lineOf (run (c .log) fresh .verdict)) (c .verdict)
+    sameLine (lineOf (located (bytesOf (c .log)) (run (c .log) fresh .verdict))) (c .verdict)
     && factsHold (c .log) (c .facts)
     && factsHold (replay fresh (c .log)) (c .replayed)
     && right cs
@@ -134,49 +135,49 @@ cases =
     -- B: M(0,5,7); free p0
     ∷ case (M 0 5 7 ∷ freeOf 0 ∷ []) accepted (2 ∷ 1 ∷ 0 ∷ []) [] []
     -- C: M(0,5,7); thread 1: p24 := p0; thread 0: free p0; thread 1: x24 := p24.data
-    ∷ case (handedOn ++ (lateRead ∷ [])) race (3 ∷ 1 ∷ 24 ∷ []) [] []
+    ∷ case (handedOn ++ (lateRead ∷ [])) race (3 ∷ 1 ∷ 24 ∷ 22 ∷ []) [] []
     -- D: as C, with M(1,5,7) before the last
-    ∷ case (handedOn ++ (M 1 5 7 ∷ lateRead ∷ [])) race (4 ∷ 1 ∷ 24 ∷ []) [] []
+    ∷ case (handedOn ++ (M 1 5 7 ∷ lateRead ∷ [])) race (4 ∷ 1 ∷ 24 ∷ 33 ∷ []) [] []
     -- E: M(0,5,0); M(1,6,0); p0.0 := p1; free p0; M(0,5,0); p16 := p0.0
     ∷ case logE accepted (6 ∷ 3 ∷ 2 ∷ []) (wordIs (PointerWord 16) 2054 ∷ []) (wordIs (PointerWord 16) 1024 ∷ [])
     -- F: E, then thread 0 asserts p16 = p1
-    ∷ case (logE ++ (fieldWith 9 (0 ∷ 16 ∷ 1 ∷ []) ∷ [])) race (6 ∷ 0 ∷ 16 ∷ []) [] []
+    ∷ case (logE ++ (fieldWith 9 (0 ∷ 16 ∷ 1 ∷ []) ∷ [])) race (6 ∷ 0 ∷ 16 ∷ 52 ∷ []) [] []
     -- G: M(0,5,0) twice
-    ∷ case (M 0 5 0 ∷ M 0 5 0 ∷ []) refused (13 ∷ 1 ∷ []) [] []
+    ∷ case (M 0 5 0 ∷ M 0 5 0 ∷ []) refused (13 ∷ 1 ∷ 11 ∷ []) [] []
     -- H: x0 := p0.data
-    ∷ case (fieldWith 6 (0 ∷ 0 ∷ 0 ∷ []) ∷ []) refused (12 ∷ 0 ∷ []) [] []
+    ∷ case (fieldWith 6 (0 ∷ 0 ∷ 0 ∷ []) ∷ []) refused (12 ∷ 0 ∷ 0 ∷ []) [] []
     -- I: free p0
     ∷ case (freeOf 0 ∷ []) accepted (1 ∷ 0 ∷ 0 ∷ []) [] []
     -- J: assert p0 ≠ p0
     ∷ case (fieldWith 10 (0 ∷ 0 ∷ 0 ∷ []) ∷ []) accepted (1 ∷ 0 ∷ 0 ∷ []) [] []
     -- K: M(0,5,0); assert p0 ≠ p0
-    ∷ case (M 0 5 0 ∷ fieldWith 10 (0 ∷ 0 ∷ 0 ∷ []) ∷ []) refused (14 ∷ 1 ∷ []) [] []
+    ∷ case (M 0 5 0 ∷ fieldWith 10 (0 ∷ 0 ∷ 0 ∷ []) ∷ []) refused (14 ∷ 1 ∷ 11 ∷ []) [] []
     -- L: M(0,5,7); free p0; M(0,5,9); x0 := p0.data
     ∷ case (M 0 5 7 ∷ freeOf 0 ∷ M 0 5 9 ∷ fieldWith 6 (0 ∷ 0 ∷ 0 ∷ []) ∷ []) accepted (4 ∷ 2 ∷ 1 ∷ []) (datumIs (VariableNumber 0) 7 ∷ []) (fieldIs 2 (M 0 1 7) ∷ [])
     -- O: M(0,5,0); free p0; M(0,5,0); thread 0: p16 := p0.0; free p16, which leaves the word that it met
-    ∷ case (M 0 5 0 ∷ freeOf 0 ∷ M 0 5 0 ∷ fieldWith 4 (0 ∷ 16 ∷ 0 ∷ 0 ∷ []) ∷ freeOf 16 ∷ []) race (4 ∷ 0 ∷ 16 ∷ []) (wordIs (PointerWord 16) 3072 ∷ []) []
+    ∷ case (M 0 5 0 ∷ freeOf 0 ∷ M 0 5 0 ∷ fieldWith 4 (0 ∷ 16 ∷ 0 ∷ 0 ∷ []) ∷ freeOf 16 ∷ []) race (4 ∷ 0 ∷ 16 ∷ 34 ∷ []) (wordIs (PointerWord 16) 3072 ∷ []) []
     -- P: x0 := 4294967295; x1 := 1; x2 := x0 + x1; assert x2 = x3
     ∷ case logP accepted (4 ∷ 0 ∷ 0 ∷ []) [] []
     -- a cas that succeeds: M(0,5,7); p1 := p0; M(2,6,0); cas done p0 = p1, p0 := p2
     ∷ case (M 0 5 7 ∷ copyOf 0 1 0 ∷ M 2 6 0 ∷ casDone 0 0 1 2 ∷ []) accepted (4 ∷ 2 ∷ 2 ∷ []) (wordIs (PointerWord 0) 6 ∷ []) (fieldIs 3 (casDone 0 0 1 2) ∷ wordIs (PointerWord 0) 1 ∷ [])
     -- a cas whose assertion fails: M(0,5,7); M(1,6,0); cas done p0 = p1, p0 := p1
-    ∷ case (M 0 5 7 ∷ M 1 6 0 ∷ casDone 0 0 1 1 ∷ []) refused (14 ∷ 2 ∷ []) (wordIs (PointerWord 0) 5 ∷ []) []
+    ∷ case (M 0 5 7 ∷ M 1 6 0 ∷ casDone 0 0 1 1 ∷ []) refused (14 ∷ 2 ∷ 22 ∷ []) (wordIs (PointerWord 0) 5 ∷ []) []
     -- a failed cas, which copies nothing: M(0,5,7); M(1,6,0); cas failed p0 ≠ p1, r = p1
     ∷ case (M 0 5 7 ∷ M 1 6 0 ∷ casFailed 0 0 1 1 ∷ []) accepted (3 ∷ 2 ∷ 2 ∷ []) (wordIs (PointerWord 0) 5 ∷ []) []
     -- a failed cas whose assertion fails: M(0,5,7); cas failed p0 ≠ p0
-    ∷ case (M 0 5 7 ∷ casFailed 0 0 0 0 ∷ []) refused (14 ∷ 1 ∷ []) [] []
+    ∷ case (M 0 5 7 ∷ casFailed 0 0 0 0 ∷ []) refused (14 ∷ 1 ∷ 11 ∷ []) [] []
     -- a race at p, before q: M(0,5,7); p1 := p0; free p0; cas done p1 = p0
-    ∷ case (M 0 5 7 ∷ copyOf 0 1 0 ∷ freeOf 0 ∷ casDone 0 1 0 2 ∷ []) race (3 ∷ 0 ∷ 1 ∷ []) [] []
+    ∷ case (M 0 5 7 ∷ copyOf 0 1 0 ∷ freeOf 0 ∷ casDone 0 1 0 2 ∷ []) race (3 ∷ 0 ∷ 1 ∷ 22 ∷ []) [] []
     -- a race at q, p being valid: as before, but cas done p2 = p1
-    ∷ case (M 0 5 7 ∷ copyOf 0 1 0 ∷ freeOf 0 ∷ casDone 0 2 1 2 ∷ []) race (3 ∷ 0 ∷ 1 ∷ []) [] []
+    ∷ case (M 0 5 7 ∷ copyOf 0 1 0 ∷ freeOf 0 ∷ casDone 0 2 1 2 ∷ []) race (3 ∷ 0 ∷ 1 ∷ 22 ∷ []) [] []
     -- an invalid r is copied: M(0,5,7); p1 := p0; free p0; M(2,6,0); p3 := p2; cas done p2 = p3, p2 := p1
     ∷ case (M 0 5 7 ∷ copyOf 0 1 0 ∷ freeOf 0 ∷ M 2 6 0 ∷ copyOf 0 3 2 ∷ casDone 0 2 3 1 ∷ []) accepted (6 ∷ 2 ∷ 1 ∷ []) (wordIs (PointerWord 2) 2053 ∷ []) (wordIs (PointerWord 2) 2048 ∷ [])
     -- a Treiber stack's ABA
-    ∷ case treiberABA race (13 ∷ 0 ∷ 16 ∷ []) [] []
+    ∷ case treiberABA race (13 ∷ 0 ∷ 16 ∷ 98 ∷ []) [] []
     ∷ []
 
 pub cases-hold : T (right cases)
-unfolding isValid cellOf isUnset invalidated afterFree fresh write store commandOf sameAsWanted checkBy give free countField startingData
+unfolding rowOf widthsOf lengthOf fieldBytes isValid cellOf isUnset invalidated afterFree fresh write store commandOf sameAsWanted checkBy give free countField startingData
 cases-hold = tt
 
 -- C as the 28 bytes that document 01 gives
@@ -192,6 +193,6 @@ bytesC =
     ∷ 6 ∷ 3 ∷ 0 ∷ 1 ∷ 24 ∷ 24
     ∷ []
 
-pub bytesC-race : lineOf (runBytes logFields bytesC fresh .verdict) ≡ line race (3 ∷ 1 ∷ 24 ∷ [])
+pub bytesC-race : lineOf (located bytesC (runBytes logFields bytesC fresh .verdict)) ≡ line race (3 ∷ 1 ∷ 24 ∷ 22 ∷ [])
 unfolding rowOf isTag widthsOf lengthOf mayName fieldOf readField isValid cellOf isUnset invalidated afterFree fresh write store commandOf sameAsWanted checkBy give free countField
 bytesC-race = refl

@@ -10,10 +10,10 @@ use Rattle.fields.specs.Limits.{logBytes, logFields, cells}
 use Rattle.fields.specs.Order.{test, inOrder}
 use Rattle.rules.specs.declared.Tally.{Tally}
 use Rattle.rules.specs.declared.Verdict.{Verdict}
-use Rattle.rules.specs.declared.Verdict.the-variants.{Refused}
+use Rattle.rules.specs.declared.Verdict.the-variants.{Declined}
 use Rattle.rules.specs.State.{State, boardPointers, boardVariables, heapSelectors, fresh}
 use Rattle.rules.specs.Run.{tallyOf}
-use Rattle.rules.specs.Log.{runBytes}
+use Rattle.rules.specs.Log.{located, runBytes}
 
 -- the five buffers, each of any length, and the tally
 pub record Lent : Type 0 where
@@ -63,7 +63,7 @@ judged verdict after = record { verdict = verdict; after = after }
 unfoldable pub judgeLog : List ℕ → Lent → Judged
 judgeLog log l =
     let end = runBytes logFields log fresh in
-    inOrder (λ r. judged (Refused r 0) l) (judged (end .verdict) (showing (end .state) l))
+    inOrder (λ r. judged (Declined r) l) (judged (located log (end .verdict)) (showing (end .state) l))
     (test (leb (length log) logBytes) LogTooLong
     ∷ test (longEnough l) BufferTooShort
     ∷ [])

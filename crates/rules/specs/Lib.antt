@@ -15,3 +15,4 @@ pub mod Plain
 pub mod Cases
 pub mod Judging
 pub mod Replaying
+pub mod Showing

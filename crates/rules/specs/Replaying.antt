@@ -8,9 +8,10 @@ use Rattle.fields.specs.declared.Refusal.the-variants.{LogTooLong, BufferTooSho
 use Rattle.fields.specs.Limits.{logBytes, logFields}
 use Rattle.fields.specs.Order.{test, inOrder}
 use Rattle.rules.specs.declared.Verdict.{Verdict}
-use Rattle.rules.specs.declared.Verdict.the-variants.{Accepted, Raced, Refused}
+use Rattle.rules.specs.declared.Verdict.the-variants.{Declined}
 use Rattle.rules.specs.State.{fresh}
-use Rattle.rules.specs.Log.{runBytes}
+use Rattle.rules.specs.Run.{Ending, Accepted, Raced, Refused}
+use Rattle.rules.specs.Log.{located, runBytes}
 use Rattle.rules.specs.Replay.{replayBytes}
 use Rattle.rules.specs.Judging.{Lent, longEnough, showing}
 
@@ -23,7 +24,7 @@ pub record Replayed : Type 0 where
 abbrev pub replayed : Verdict → List ℕ → Lent → Replayed
 replayed verdict output after = record { verdict = verdict; output = output; after = after }
 
-abbrev pub outputAfter : Verdict → List ℕ → List ℕ → List ℕ
+abbrev pub outputAfter : Ending → List ℕ → List ℕ → List ℕ
 outputAfter (Accepted fields mallocs live) log out = replayBytes logFields log ++ drop (length log) out
 outputAfter (Raced field thread variable) log out = out
 outputAfter (Refused r field) log out = out
@@ -31,7 +32,7 @@ outputAfter (Refused r field) log out = out
 unfoldable pub replayLog : List ℕ → List ℕ → Lent → Replayed
 replayLog log out l =
     let end = runBytes logFields log fresh in
-    inOrder (λ r. replayed (Refused r 0) out l) (replayed (end .verdict) (outputAfter (end .verdict) log out) (showing (end .state) l))
+    inOrder (λ r. replayed (Declined r) out l) (replayed (located log (end .verdict)) (outputAfter (end .verdict) log out) (showing (end .state) l))
     (test (leb (length log) logBytes) LogTooLong
     ∷ test (longEnough l) BufferTooShort
     ∷ test (leb (length log) (length out)) OutputTooShort

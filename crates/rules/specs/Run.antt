@@ -10,8 +10,6 @@ use Rattle.rules.specs.declared.Act.{Act}
 use Rattle.rules.specs.declared.Answer.{Answer}
 use Rattle.rules.specs.declared.Answer.the-variants.{Go, Race, Refuse}
 use Rattle.rules.specs.declared.Tally.{Tally}
-use Rattle.rules.specs.declared.Verdict.{Verdict}
-use Rattle.rules.specs.declared.Verdict.the-variants.{Accepted, Raced, Refused}
 use Rattle.rules.specs.State.{State, live}
 use Rattle.rules.specs.Commands.{actOf}
 use Rattle.rules.specs.Check.{check}
@@ -23,8 +21,14 @@ pub record Rules (S : Type 0) : Type 0 where
   pub check : Act → S → Answer
   pub effect : Act → S → S
 
+-- how a run ends: fields, mallocs and live cells; field, thread and variable of a race; a refusal and its field
+pub data Ending : Type 0 where
+  Accepted : ℕ → ℕ → ℕ → Ending
+  Raced : ℕ → ℕ → ℕ → Ending
+  Refused : Refusal → ℕ → Ending
+
 pub record OutcomeOf (S : Type 0) : Type 0 where
-  pub verdict : Verdict
+  pub verdict : Ending
   pub state : S
 
 abbrev pub Outcome : Type 0
@@ -44,7 +48,7 @@ abbrev pub tallyOf : State → Tally
 tallyOf s = record { fields = s .fields; mallocs = s .mallocs; live = liveCount (s .status) }
 
 -- an accepted log's numbers are those of the tally
-abbrev pub endVerdict : End → State → Verdict
+abbrev pub endVerdict : End → State → Ending
 endVerdict whole s = Accepted (tallyOf s .fields) (tallyOf s .mallocs) (tallyOf s .live)
 endVerdict (unread r) s = Refused r (s .fields)
 

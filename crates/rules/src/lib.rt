@@ -146,11 +146,13 @@ pub enum Answer {
     Refuse(Refusal),
 }
 
-// What is said of a log: fields, mallocs and live cells; field, thread and variable of a race; a refusal and its field.
+// What is said of a log: fields, mallocs and live cells; field, thread, variable and byte offset of a race; a refusal met at a field,
+// the field and its byte offset; a refusal of the whole call, which is met at no field.
 pub enum Verdict {
     Accepted(u32, u32, u32),
-    Raced(u32, u8, u8),
-    Refused(Refusal, u32),
+    Raced(u32, u8, u8, u32),
+    Refused(Refusal, u32, u32),
+    Declined(Refusal),
 }
 
 // A verdict as it is printed: a word and its numbers, of which the first so many count; the rest of each is 0.
@@ -164,7 +166,7 @@ pub struct Printed {
 impl Printed {
     pub const LETTERS: usize = 8;
 
-    pub const NUMBERS: usize = 3;
+    pub const NUMBERS: usize = 4;
 }
 
 impl Verdict {
@@ -175,21 +177,40 @@ impl Verdict {
             Verdict::Accepted(fields, mallocs, live) => Printed {
                 word: *b"accepted",
                 letters: 8,
-                numbers: [fields, mallocs, live],
+                numbers: [fields, mallocs, live, 0],
                 count: 3,
             },
-            Verdict::Raced(field, thread, variable) => Printed {
+            Verdict::Raced(field, thread, variable, offset) => Printed {
                 word: *b"race\0\0\0\0",
                 letters: 4,
-                numbers: [field, thread as u32, variable as u32],
-                count: 3,
+                numbers: [field, thread as u32, variable as u32, offset],
+                count: 4,
             },
-            Verdict::Refused(why, field) => Printed {
+            Verdict::Refused(why, field, offset) => Printed {
                 word: *b"refused\0",
                 letters: 7,
-                numbers: [why.number() as u32, field, 0],
+                numbers: [why.number() as u32, field, offset, 0],
+                count: 3,
+            },
+            Verdict::Declined(why) => Printed {
+                word: *b"refused\0",
+                letters: 7,
+                numbers: [why.number() as u32, 0, 0, 0],
                 count: 2,
             },
         }
     }
+}
+
+// Which of two logs a field is shown of.
+pub enum Choice {
+    Recording,
+    Replay,
+}
+
+// What is said where a field's bytes are asked for: the place in the log where they begin and how many they are, or a refusal and
+// its field.
+pub enum Shown {
+    Part(usize, usize),
+    Refused(Refusal, u32),
 }

@@ -9,14 +9,13 @@ use Rattle.fields.specs.Numbers.{fieldWith}
 use Rattle.rules.specs.declared.Answer.the-variants.{Go}
 use Rattle.rules.specs.declared.Guard.the-variants.{Same}
 use Rattle.rules.specs.declared.Place.the-variants.{PointerWord, SelectorWord}
-use Rattle.rules.specs.declared.Verdict.the-variants.{Raced}
 use Rattle.rules.specs.Words.{afterFree, cellOf, invalidated, isUnset, isValid}
 use Rattle.rules.specs.State.{State, fresh, store, word, write}
 use Rattle.rules.specs.Cases.{casDone, casFailed, copyOf}
 use Rattle.rules.specs.Commands.{actOf, commandOf}
 use Rattle.rules.specs.Check.{check, checkBy, holds, sameAsWanted}
 use Rattle.rules.specs.Effect.{countField, effect, free, give}
-use Rattle.rules.specs.Run.{run}
+use Rattle.rules.specs.Run.{Raced, run}
 use Rattle.theorems.specs.Paper.{Assert, Copy, samePointers}
 use Rattle.theorems.specs.Beside.{Takes, both, says-copy, says-same}
 

@@ -5,9 +5,8 @@ use mathlib.Core.Path.{_≡_, ap}
 use mathlib.Core.List.{List}
 use Rattle.fields.specs.Limits.{logFields}
 use Rattle.fields.specs.Every.{AreBytes}
-use Rattle.rules.specs.declared.Verdict.the-variants.{Accepted}
 use Rattle.rules.specs.State.{fresh}
-use Rattle.rules.specs.Run.{Outcome}
+use Rattle.rules.specs.Run.{Accepted, Outcome}
 use Rattle.rules.specs.Log.{parse, runBytes}
 use Rattle.rules.specs.Plain.{Distinct, givenBy, runPlainBytes}
 use Rattle.theorems.proofs.Kept.{Inv, inv-fresh, keep}

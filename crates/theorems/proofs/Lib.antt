@@ -24,3 +24,4 @@ pub mod PaperRun
 pub mod PaperAllowed
 pub mod PaperDemands
 pub mod Cas
+pub mod Shown

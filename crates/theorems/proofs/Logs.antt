@@ -8,13 +8,11 @@ use native.Mathlib.Omega.{arith}
 use lib.ListN.{drop, length, length-append}
 use lib.Seq.{drop-at}
 use Rattle.fields.specs.declared.Field.{Field}
-use Rattle.fields.specs.declared.Read.{Read}
-use Rattle.fields.specs.declared.Read.the-variants.{Got, Refused as Unread}
 use Rattle.fields.specs.Every.{AreBytes, Every}
 use Rattle.fields.specs.Bytes.{pack, toBytes}
 use Rattle.fields.specs.Rows.{lengthOf, rowOf, widthsOf}
 use Rattle.fields.specs.Numbers.{numbersOf}
-use Rattle.fields.specs.Read.{readField}
+use Rattle.fields.specs.Read.{Got, Reading, Refused as Unread, readField}
 use Rattle.fields.specs.Write.{fieldBytes}
 use Rattle.fields.proofs.Passing.{every-join}
 use Rattle.fields.proofs.Writing.{length-fieldBytes}
@@ -23,12 +21,11 @@ use Rattle.fields.proofs.RoundTrip.{Readable, back, there}
 use Rattle.rules.specs.declared.Act.{Act}
 use Rattle.rules.specs.declared.Answer.{Answer}
 use Rattle.rules.specs.declared.Answer.the-variants.{Go, Race, Refuse}
-use Rattle.rules.specs.declared.Verdict.the-variants.{Accepted}
 use Rattle.rules.specs.State.{State, fresh}
 use Rattle.rules.specs.Commands.{actOf}
 use Rattle.rules.specs.Check.{check}
 use Rattle.rules.specs.Effect.{effect}
-use Rattle.rules.specs.Run.{End, Outcome, next, run, runTo, unread, whole}
+use Rattle.rules.specs.Run.{Accepted, End, Outcome, next, run, runTo, unread, whole}
 use Rattle.rules.specs.Log.{onward, parse, runBytes}
 use Rattle.rules.specs.Replay.{bytesOf, copyAct, copyField, nextCell, replay, replayBytes, start}
 use Rattle.rules.specs.Matching.{Along, Match}
@@ -36,7 +33,7 @@ use Rattle.theorems.proofs.Basics.{every-map}
 use Rattle.theorems.proofs.Kept.{NamedAct}
 use Rattle.theorems.proofs.Ranges.{Bounded, Small, bounded-effect, bounded-fresh}
 use Rattle.theorems.proofs.Tables.{act-copy, readable-copy, readable-named, readable-small}
-use Rattle.theorems.proofs.Replayed.{All, next-accepted, replayed}
+use Rattle.theorems.proofs.Replayed.{All, Replayed, next-accepted, replayed}
 
 parse-some : (n : ℕ) (b : List ℕ) → 0 < length b → parse (suc n) b ≡ onward (readField b) b (λ rest. parse n rest)
 parse-some n [] h = absurd (not-suc-le-zero h)
@@ -60,7 +57,7 @@ pub record Taken (n : ℕ) (log : List ℕ) : Type 0 where
   pub bytes : bytesOf (parse n log .fields) ++ rest ≡ log
   pub all : parse n log .end ≡ whole → rest ≡ []
 
-taken-more : (n : ℕ) (b : ℕ) (bs : List ℕ) (x : Read) → AreBytes (b ∷ bs) → readField (b ∷ bs) ≡ x → ((rest : List ℕ) → AreBytes rest → Taken n rest) → Taken (suc n) (b ∷ bs)
+taken-more : (n : ℕ) (b : ℕ) (bs : List ℕ) (x : Reading) → AreBytes (b ∷ bs) → readField (b ∷ bs) ≡ x → ((rest : List ℕ) → AreBytes rest → Taken n rest) → Taken (suc n) (b ∷ bs)
 taken-more n b bs (Got f) y e w =
     let q = back (b ∷ bs) f y e in
     let left = drop (3 + lengthOf (f .tag)) (b ∷ bs) in
@@ -150,6 +147,33 @@ module _ (P : State → Type 0) (keeps : (a : Act) (s : State) → NamedAct a �
   pub kept-log : (n : ℕ) (log : List ℕ) → AreBytes log → P fresh → P (runBytes n log fresh .state)
   kept-log n log y p = kept-run (parse n log .end) (parse n log .fields) fresh (taken n log y .readable) p
 
+-- ---- an accepted log of at most n fields, and its replay: their fields, and the bytes of these
+pub record Fields (n : ℕ) (log : List ℕ) (fields mallocs live : ℕ) : Type 0 where
+  pub readable : Every Readable (parse n log .fields)
+  pub bytes : bytesOf (parse n log .fields) ≡ log
+  pub accepted : run (parse n log .fields) fresh .verdict ≡ Accepted fields mallocs live
+  pub replays : Replayed (parse n log .fields) fields mallocs live
+  pub copies : Copied (parse n log .fields) (replay fresh (parse n log .fields))
+  pub again : parse n (replayBytes n log) ≡ record { fields = replay fresh (parse n log .fields); end = whole }
+
+pub fields-of : (n : ℕ) (log : List ℕ) (x y l : ℕ) → AreBytes log → runBytes n log fresh .verdict ≡ Accepted x y l → Fields n log x y l
+unfolding replayBytes
+fields-of n log x y l b e =
+    let fs : List Field = parse n log .fields in
+    let z : parse n log .end ≡ whole = ended (parse n log .end) fs fresh x y l e in
+    let w = taken n log b in
+    let r : run fs fresh .verdict ≡ Accepted x y l = rw z at e in
+    let d = replayed fs x y l (taken-named n log b) r in
+    let c = copied fs fresh x y l (w .readable) bounded-fresh (d .named) r in
+    record {
+      readable = w .readable;
+      bytes = rw (w .all z, append-nil (bytesOf fs)) at (w .bytes);
+      accepted = r;
+      replays = d;
+      copies = c;
+      again = parse-bytes n (replay fresh fs) (c .readable) (omega (arith, c .count, w .room));
+    }
+
 -- ---- demand 3 over the bytes of a log of at most n fields
 pub record ReplayOf (n : ℕ) (log : List ℕ) (fields mallocs live : ℕ) : Type 0 where
   pub accepted : runBytes n (replayBytes n log) fresh .verdict ≡ Accepted fields mallocs live
@@ -160,17 +184,10 @@ pub record ReplayOf (n : ℕ) (log : List ℕ) (fields mallocs live : ℕ) : Typ
 pub replay-of : (n : ℕ) (log : List ℕ) (x y l : ℕ) → AreBytes log → runBytes n log fresh .verdict ≡ Accepted x y l → ReplayOf n log x y l
 unfolding replayBytes
 replay-of n log x y l b e =
-    let fs : List Field = parse n log .fields in
-    let z : parse n log .end ≡ whole = ended (parse n log .end) fs fresh x y l e in
-    let w = taken n log b in
-    let r : run fs fresh .verdict ≡ Accepted x y l = rw z at e in
-    let d = replayed fs x y l (taken-named n log b) r in
-    let c = copied fs fresh x y l (w .readable) bounded-fresh (d .named) r in
-    let again = parse-bytes n (replay fresh fs) (c .readable) (omega (arith, c .count, w .room)) in
-    let whole-log : length (bytesOf fs) ≡ length log = rw (w .all z, append-nil (bytesOf fs)) at (ap length (w .bytes)) in
+    let p = fields-of n log x y l b e in
     record {
-      accepted = rw again (d .accepts);
-      size = c .bytes ∙ whole-log;
-      bytes = bytes-fields (replay fresh fs);
-      matches = rw again (d .matches);
+      accepted = rw (p .again) (p .replays .accepts);
+      size = p .copies .bytes ∙ ap length (p .bytes);
+      bytes = bytes-fields (replay fresh (parse n log .fields));
+      matches = rw (p .again) (p .replays .matches);
     }

@@ -14,13 +14,12 @@ use Rattle.fields.proofs.Passing.{every-cut}
 use Rattle.fields.proofs.RoundTrip.{Readable}
 use Rattle.rules.specs.declared.Answer.{Answer}
 use Rattle.rules.specs.declared.Answer.the-variants.{Go, Race, Refuse}
-use Rattle.rules.specs.declared.Verdict.the-variants.{Accepted, Raced}
 use Rattle.rules.specs.Words.{cellOf, isUnset}
 use Rattle.rules.specs.State.{State, freed, fresh, live, statusOf, word}
 use Rattle.rules.specs.Commands.{actOf}
 use Rattle.rules.specs.Check.{check}
 use Rattle.rules.specs.Effect.{effect}
-use Rattle.rules.specs.Run.{End, Outcome, next, runTo, unread, whole}
+use Rattle.rules.specs.Run.{Accepted, End, Outcome, Raced, next, runTo, unread, whole}
 use Rattle.rules.specs.Log.{parse, runBytes}
 use Rattle.theorems.specs.Paper.{Com, Computation, Lemma2, NotValid, PExp, cell, defined, index, initial, nextOf, validIn}
 use Rattle.theorems.specs.Beside.{Computed, RaceIn, Shows, Takes, isThere, passing, placeOf, pvalOf}

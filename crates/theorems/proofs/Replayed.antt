@@ -19,14 +19,13 @@ use Rattle.rules.specs.declared.Place.{Place}
 use Rattle.rules.specs.declared.Place.the-variants.{PointerWord, SelectorWord}
 use Rattle.rules.specs.declared.Answer.{Answer}
 use Rattle.rules.specs.declared.Answer.the-variants.{Go, Race, Refuse}
-use Rattle.rules.specs.declared.Verdict.the-variants.{Accepted}
 use Rattle.rules.specs.Words.{cellOf, isUnset, isValid, unset}
 use Rattle.rules.specs.State.{State, freed, fresh, live, neverUsed, pointer, statusOf, store, word, write}
 use Rattle.rules.specs.Acts.{frees, gives}
 use Rattle.rules.specs.Commands.{actOf}
 use Rattle.rules.specs.Check.{check, roomFor, valid}
 use Rattle.rules.specs.Effect.{apply, countField, effect, free, give}
-use Rattle.rules.specs.Run.{Outcome, next, run}
+use Rattle.rules.specs.Run.{Accepted, Outcome, next, run}
 use Rattle.rules.specs.Replay.{Matching, copyAct, copyChange, copyField, nextCell, rematch, replay, start}
 use Rattle.rules.specs.Matching.{Alike, Along, Live, Match, Owned, twin}
 use Rattle.rules.proofs.Checks.{Clear}

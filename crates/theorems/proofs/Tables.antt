@@ -104,14 +104,14 @@ record Fine (r : Row) (command : Field → Act) : Type 0 where
       → Every Passes (valueChecks r f) → Every Passes (valueChecks r (recast (copyChange s k (command f .change)) f))
 
 -- a command that gives out no cell is copied as it is, and so is its field
-same-change : (s : State) (k : ReplayCell) (c : Change) → gives c ≡ [] → copyChange s k c ≡ c
+pub same-change : (s : State) (k : ReplayCell) (c : Change) → gives c ≡ [] → copyChange s k c ≡ c
 same-change s k Stay e = refl
 same-change s k (Allocate p c d) e = absurd (let z : _≡_ {A = ℕ} 0 1 = cc in omega arith)
 same-change s k (Release p) e = refl
 same-change s k (Move x y) e = refl
 same-change s k (Put x v) e = refl
 
-same-field : (c : Change) (f : Field) → gives c ≡ [] → recast c f ≡ f
+pub same-field : (c : Change) (f : Field) → gives c ≡ [] → recast c f ≡ f
 same-field Stay f e = refl
 same-field (Allocate p c d) f e = absurd (let z : _≡_ {A = ℕ} 0 1 = cc in omega arith)
 same-field (Release p) f e = refl

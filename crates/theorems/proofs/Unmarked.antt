@@ -29,14 +29,13 @@ use Rattle.rules.specs.declared.Place.the-variants.{PointerWord, SelectorWord}
 use Rattle.rules.specs.declared.DataPlace.{DataPlace}
 use Rattle.rules.specs.declared.Answer.{Answer}
 use Rattle.rules.specs.declared.Answer.the-variants.{Go, Race, Refuse}
-use Rattle.rules.specs.declared.Verdict.{Verdict}
 use Rattle.rules.specs.Words.{afterFree, cellOf, invalidated, isUnset, isValid, unset, wordAt}
 use Rattle.rules.specs.State.{State, freed, fresh, live, neverUsed, pointer, statusOf, store, withStatus, withWords, word, write}
 use Rattle.rules.specs.Acts.{dataPlace, frees, gives, place, pointerThrough, through, touched, value}
 use Rattle.rules.specs.Commands.{actOf}
 use Rattle.rules.specs.Check.{check, checkBy, holds, points, sameAsWanted, valid}
 use Rattle.rules.specs.Effect.{apply, changeOwn, changeWord, countField, effect, free, give}
-use Rattle.rules.specs.Run.{End, Outcome, endVerdict, next, runTo, unread, whole}
+use Rattle.rules.specs.Run.{End, Ending, Outcome, endVerdict, next, runTo, unread, whole}
 use Rattle.rules.specs.Matching.{Live, Owned}
 use Rattle.rules.specs.Plain.{Distinct, applyPlain, checkPlain, freePlain, givenBy, runPlainTo, unfreed}
 use Rattle.rules.proofs.Checks.{Clear, each-same}
@@ -308,7 +307,7 @@ unmarked-end (unread r) s = refl
 
 unmarked-run : (end : End) (fs : List Field) (s : State) → Clean s (givenBy fs) → All NamedAct fs → runPlainTo end fs (unmarked s) ≡ unmarkedOutcome (runTo end fs s)
 unfolding unmarkedOutcome
-unmarked-run end [] s C a = ap (λ (v : Verdict). record { verdict = v; state = unmarked s }) (unmarked-end end s)
+unmarked-run end [] s C a = ap (λ (v : Ending). record { verdict = v; state = unmarked s }) (unmarked-end end s)
 unmarked-run end (f ∷ fs) s C a =
     rw (check-unmarked (actOf f) s (C .honest), unmarked-apply (actOf f .change) s (a .0 .1), unmarked-countField (apply (actOf f .change) s))
     (unmarked-next (check (actOf f) s) f s (runTo end fs (effect (actOf f) s)) (runPlainTo end fs (unmarked (effect (actOf f) s)))

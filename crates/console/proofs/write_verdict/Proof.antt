@@ -8,7 +8,7 @@ use Rattle.console.proofs.write_verdict.Statement.{statement}
 use Rattle.console.proofs.write_verdict.Tie as tie
 
 abbrev Inv-loop : tie.InvT-loop
-Inv-loop fd letters numbers count i₀ i = (i ≤ count) × (count ≤ 3)
+Inv-loop fd letters numbers count i₀ i = (i ≤ count) × (count ≤ 4)
 
 abbrev μ-loop : tie.MeasureT-loop
 μ-loop fd letters numbers count i₀ i = count - i

@@ -8,7 +8,7 @@ use Rattle.batch.proofs.text.put_verdict.Statement.{statement}
 use Rattle.batch.proofs.text.put_verdict.Tie as tie
 
 abbrev Inv-loop : tie.InvT-loop
-Inv-loop text₀ start letters numbers count at₀ i₀ text at i = (at ≤ 4096) × ((i ≤ count) × (count ≤ 3))
+Inv-loop text₀ start letters numbers count at₀ i₀ text at i = (at ≤ 4096) × ((i ≤ count) × (count ≤ 4))
 
 abbrev μ-loop : tie.MeasureT-loop
 μ-loop text₀ start letters numbers count at₀ i₀ text at i = count - i

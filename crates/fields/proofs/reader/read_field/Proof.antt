@@ -1,5 +1,6 @@
 -- `fields::reader::read_field` meets its contract.
 use Rattle.fields.proofs.Framing.{checked, read-framed, read-unframed, whole}
+use Rattle.fields.specs.Read.{placed}
 use Rattle.fields.specs.Rows.{lengthOf}
 use borrow.Author.Needs.{needs}
 use denote.Ref.{now}
@@ -38,7 +39,8 @@ enum-known-why-2 c = search needs
 returns : tie.Need-returns
 returns c =
     let field = c .before .before .before .field-of .result in
-    ap (checked field) (sym (c .enum-told .given .1))
+    ap (placed (c .before .before .before .before .before .before .before .before .before .before .before .args .place))
+    (ap (checked field) (sym (c .enum-told .given .1))
     ∙ read-framed
     (now (c .before .before .before .before .before .before .before .before .before .before .before .args .part))
     (now (c .before .before .before .before .value-of .result))
@@ -50,12 +52,13 @@ returns c =
     (c .before .before .before .before .before .row-of .ensures)
     (c .before .before .before .before .value-of .ensures)
     (c .before .before .before .field-of .ensures)
-    (c .before .before .check-value .ensures)
+    (c .before .before .check-value .ensures))
 
 returns-2 : tie.Need-returns-2
 returns-2 c =
     let field = c .before .before .before .before .field-of .result in
-    ap (checked field) (sym (c .before .why .given .1))
+    ap (placed (c .before .before .before .before .before .before .before .before .before .before .before .before .args .place))
+    (ap (checked field) (sym (c .before .why .given .1))
     ∙ read-framed
     (now (c .before .before .before .before .before .before .before .before .before .before .before .before .args .part))
     (now (c .before .before .before .before .before .value-of .result))
@@ -67,10 +70,10 @@ returns-2 c =
     (c .before .before .before .before .before .before .row-of .ensures)
     (c .before .before .before .before .before .value-of .ensures)
     (c .before .before .before .before .field-of .ensures)
-    (c .before .before .before .check-value .ensures)
+    (c .before .before .before .check-value .ensures))
 
 returns-3 : tie.Need-returns-3
-returns-3 c = read-unframed (now (c .before .before .before .before .before .args .part)) (c .before .why2 .given .0 .0) (sym (c .before .before .before .frame-of .ensures) ∙ c .before .why2 .given .1)
+returns-3 c = ap (placed (c .before .before .before .before .before .args .place)) (read-unframed (now (c .before .before .before .before .before .args .part)) (c .before .why2 .given .0 .0) (sym (c .before .before .before .frame-of .ensures) ∙ c .before .why2 .given .1))
 
 pub read-field-spec : {M : Type 1} → statement M
 read-field-spec =

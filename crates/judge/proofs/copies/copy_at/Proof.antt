@@ -1,5 +1,6 @@
 -- `judge::copies::copy_at` meets its contract.
 use Rattle.judge.proofs.Copying.{copy-got, copy-refused}
+use Rattle.fields.proofs.Framing.{placed-got, placed-refused}
 use Rattle.rules.specs.State.{stateOf}
 use borrow.Author.Needs.{needs}
 use mathlib.Core.Path.{_∙_, sym}
@@ -16,14 +17,17 @@ part-read-field-start c = search needs
 part-read-field-end : tie.Need-part-read-field-end
 part-read-field-end c = search needs
 
+cast-read-field : tie.Need-cast-read-field
+cast-read-field c = omega (arith, c .before .before .before .before .before .before .pre .0 .0, c .before .before .before .before .before .before .pre .0 .1 .0)
+
 read-field-requires : tie.Need-read-field-requires
 read-field-requires c κs = search needs
 
 enum-known-field : tie.Need-enum-known-field
 enum-known-field c = search needs
 
-cast-t21 : tie.Need-cast-t21
-cast-t21 c = search needs
+cast-t22 : tie.Need-cast-t22
+cast-t22 c = search needs
 
 copy-of-requires : tie.Need-copy-of-requires
 copy-of-requires c κs = search needs
@@ -48,14 +52,14 @@ step-requires c κs =
 value-length-requires : tie.Need-value-length-requires
 value-length-requires c κs = search needs
 
-cast-t28 : tie.Need-cast-t28
-cast-t28 c = search needs
-
-add-t38 : tie.Need-add-t38
-add-t38 c = search needs
+cast-t29 : tie.Need-cast-t29
+cast-t29 c = search needs
 
 add-t39 : tie.Need-add-t39
-add-t39 c = omega (arith, c .before .before .before .before .before .before .before .before .before .before .before .before .before .before .before .before .before .before .before .before .before .before .before .before .before .before .before .before .before .before .before .pre .0 .0, c .before .before .before .before .before .before .before .before .before .before .before .before .before .before .before .before .before .before .before .before .before .before .before .before .before .before .before .before .before .before .before .pre .0 .1 .0)
+add-t39 c = search needs
+
+add-t40 : tie.Need-add-t40
+add-t40 c = omega (arith, c .before .before .before .before .before .before .before .before .before .before .before .before .before .before .before .before .before .before .before .before .before .before .before .before .before .before .before .before .before .before .before .pre .0 .0, c .before .before .before .before .before .before .before .before .before .before .before .before .before .before .before .before .before .before .before .before .before .before .before .before .before .before .before .before .before .before .before .pre .0 .1 .0)
 
 enum-told : tie.Need-enum-told
 enum-told c = search needs
@@ -78,7 +82,7 @@ returns c =
     let a = start .args in
     let s = stateOf (a .board) (a .tally) (a .selectors .now) (a .numbers .now) (a .status .now) in
     let got = c .before .before .before .before .before .before .before .before .before .before .before .before .before .before .before .before .before .before .before .before .before .before .field .given in
-    let read = sym (c .before .before .before .before .before .before .before .before .before .before .before .before .before .before .before .before .before .before .before .before .before .before .before .before .read-field .ensures) ∙ got .1 in
+    let read = placed-got (a .at) _ (got .0 .0) _ (sym (c .before .before .before .before .before .before .before .before .before .before .before .before .before .before .before .before .before .before .before .before .before .before .before .before .read-field .ensures) ∙ got .1) in
     let copied = c .before .before .before .before .before .before .before .before .before .before .before .before .before .before .before .before .before .copy-of .ensures (a .board) (a .tally) (a .selectors .now) in
     (λ n accepted. rw (c .value-length .ensures) (copy-got (a .log .now) (a .at) (start .pre .0 .0) s (got .0 .0) read _ (c .before .before .before .before .before .before .before .before .before .step .ensures .0) (a .out .now) (start .pre .0 .1 .1) _ copied _ _ (c .before .before .before .before .before .before .before .before .before .before .before .before .before .before .before .write-field .ensures) n accepted), c .before .before .before .before .before .before .before .before .before .step .ensures .1)
 
@@ -87,7 +91,7 @@ returns-2 c =
     let start = c .before .before .before .before .before .before .before .before .before in
     let a = start .args in
     let s = stateOf (a .board) (a .tally) (a .selectors .now) (a .numbers .now) (a .status .now) in
-    (λ n accepted. absurd (copy-refused (a .log .now) (a .at) (start .pre .0 .0) s n _ (sym (c .before .before .read-field .ensures) ∙ c .enum-told .given .1) accepted), start .pre .1 .1)
+    (λ n accepted. absurd (copy-refused (a .log .now) (a .at) (start .pre .0 .0) s n _ (placed-refused (a .at) _ _ _ (sym (c .before .before .read-field .ensures) ∙ c .enum-told .given .1) .0) accepted), start .pre .1 .1)
 
 pub copy-at-spec : {M : Type 1} → statement M
 copy-at-spec =
@@ -96,9 +100,10 @@ copy-at-spec =
     sub-read-field
     part-read-field-start
     part-read-field-end
+    cast-read-field
     read-field-requires
     enum-known-field
-    cast-t21
+    cast-t22
     copy-of-requires
     sub-write-field
     part-write-field-start
@@ -106,9 +111,9 @@ copy-at-spec =
     write-field-requires
     step-requires
     value-length-requires
-    cast-t28
-    add-t38
+    cast-t29
     add-t39
+    add-t40
     enum-told
     same-length
     same-length-2

@@ -1,9 +1,6 @@
 -- `judge::lent::run_fresh` meets its contract.
-use Rattle.fields.specs.Limits.{logFields}
 use Rattle.judge.proofs.Lending.{fresh-counts}
-use Rattle.rules.specs.Log.{runBytes}
 use borrow.Author.Needs.{needs}
-use mathlib.Core.Path.{_∙_, ap}
 use Rattle.judge.proofs.lent.run_fresh.Statement.{statement}
 use Rattle.judge.proofs.lent.run_fresh.Tie as tie
 
@@ -23,7 +20,7 @@ same-length-3 : tie.Need-same-length-3
 same-length-3 c = search needs
 
 returns : tie.Need-returns
-returns c = (c .before .before .before .before .before .before .run .ensures .0 ∙ ap (runBytes logFields (c .before .before .before .before .before .before .before .before .before .before .before .before .before .before .before .before .before .before .before .before .before .before .before .before .args .log .now)) (c .before .before .before .before .before .before .before .before .before .before .before .before .before .before .before .before .refresh .ensures), c .before .before .before .before .before .before .run .ensures .1)
+returns c = (rw (c .before .before .before .before .before .before .before .before .before .before .before .before .before .before .before .before .refresh .ensures) at (c .before .before .before .before .before .before .run .ensures .0), c .before .before .before .before .before .before .run .ensures .1)
 
 pub run-fresh-spec : {M : Type 1} → statement M
 run-fresh-spec =

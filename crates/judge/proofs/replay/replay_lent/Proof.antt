@@ -1,5 +1,5 @@
 -- `judge::replay::replay_lent` meets its contract.
-use Rattle.judge.proofs.Replaying.{ran-accepted, replay-accepted, replay-as}
+use Rattle.judge.proofs.Replaying.{ran-accepted, replay-accepted, replay-kept}
 use Rattle.rules.specs.Judging.{lent}
 use borrow.Author.Needs.{needs}
 use lib.Seq.{length-take-le}
@@ -37,7 +37,7 @@ copy-log-requires c κs =
     let start = c .before .before .before .before .before .before .before .before .before .before .before .before .before .before .before .before .before .before .before .before .before .before .before .before .before .before .before .before .before in
     let ran = c .before .before .before .before .before .before .before .before .before .before .before .before .before .before .before .before .run-lent in
     let lists = ran .last .1 in
-    let accepted = ran-accepted (start .args .log .now) _ (ran .result .verdict) _ (ran .ensures (ran .result .tally)) _ _ _ (c .before .before .before .before .enum-told .given .1) in
+    let accepted = ran-accepted (start .args .log .now) _ (ran .result .verdict) _ (ran .ensures (ran .result .tally)) (rw (c .before .before .before .before .enum-told .given .1) tt) in
     let selectors = length-take-le 2048 (lists .1 .0) (omega (arith, start .pre .1 .selectors-fit)) in
     let numbers = length-take-le 1024 (lists .1 .1 .1 .0) (omega (arith, start .pre .1 .numbers-fit)) in
     let status = length-take-le 1024 (lists .1 .1 .1 .1 .0) (omega (arith, start .pre .1 .status-fit)) in
@@ -48,6 +48,9 @@ enum-told-2 c = search needs
 
 enum-told-3 : tie.Need-enum-told-3
 enum-told-3 c = search needs
+
+enum-told-4 : tie.Need-enum-told-4
+enum-told-4 c = search needs
 
 same-length : tie.Need-same-length
 same-length c = search needs
@@ -77,7 +80,7 @@ returns c =
     let selectors = c .before .before .before .before .before .selectors2 .given .0 ∙ length-take-le 2048 (lists .1 .0) (omega (arith, start .pre .1 .selectors-fit)) in
     let numbers = c .before .before .before .numbers2 .given .0 ∙ length-take-le 1024 (lists .1 .1 .1 .0) (omega (arith, start .pre .1 .numbers-fit)) in
     let status = c .before .status2 .given .0 ∙ length-take-le 1024 (lists .1 .1 .1 .1 .0) (omega (arith, start .pre .1 .status-fit)) in
-    λ tally. replay-accepted (a .log .now) _ (ran .result .verdict) after (ran .ensures tally) (a .out .now) _ _ _ _ (c .before .before .before .before .before .before .before .before .copy-log .ensures) selectors numbers status _ _ _ (c .before .before .before .before .before .before .before .before .before .before .before .before .before .enum-told .given .1)
+    λ tally. replay-accepted (a .log .now) _ (ran .result .verdict) after (ran .ensures tally) (a .out .now) _ _ _ _ (c .before .before .before .before .before .before .before .before .copy-log .ensures) selectors numbers status (rw (c .before .before .before .before .before .before .before .before .before .before .before .before .before .enum-told .given .1) tt)
 
 same-length-7 : tie.Need-same-length-7
 same-length-7 c = search needs
@@ -98,7 +101,7 @@ returns-2 : tie.Need-returns-2
 returns-2 c =
     let a = c .before .before .before .before .before .before .before .before .before .before .before .before .before .before .before .before .before .before .before .before .before .before .before .before .before .args in
     let ran = c .before .before .before .before .before .before .before .before .before .before .before .before .run-lent in
-    λ tally. replay-as (a .log .now) _ (ran .result .verdict) _ (ran .ensures tally) (a .out .now) (a .out .now) (rw (c .enum-told2 .given .1))
+    λ tally. replay-kept (a .log .now) _ (ran .result .verdict) _ (ran .ensures tally) (a .out .now) (λ h. rw (c .enum-told2 .given .1) at h)
 
 same-length-12 : tie.Need-same-length-12
 same-length-12 c = search needs
@@ -119,7 +122,28 @@ returns-3 : tie.Need-returns-3
 returns-3 c =
     let a = c .before .before .before .before .before .before .before .before .before .before .before .before .before .before .before .before .before .before .before .before .before .before .before .before .before .args in
     let ran = c .before .before .before .before .before .before .before .before .before .before .before .before .run-lent in
-    λ tally. replay-as (a .log .now) _ (ran .result .verdict) _ (ran .ensures tally) (a .out .now) (a .out .now) (rw (c .enum-told3 .given .1))
+    λ tally. replay-kept (a .log .now) _ (ran .result .verdict) _ (ran .ensures tally) (a .out .now) (λ h. rw (c .enum-told3 .given .1) at h)
+
+same-length-17 : tie.Need-same-length-17
+same-length-17 c = search needs
+
+same-length-18 : tie.Need-same-length-18
+same-length-18 c = search needs
+
+same-length-19 : tie.Need-same-length-19
+same-length-19 c = search needs
+
+same-length-20 : tie.Need-same-length-20
+same-length-20 c = search needs
+
+same-length-21 : tie.Need-same-length-21
+same-length-21 c = search needs
+
+returns-4 : tie.Need-returns-4
+returns-4 c =
+    let a = c .before .before .before .before .before .before .before .before .before .before .before .before .before .before .before .before .before .before .before .before .before .before .before .before .before .args in
+    let ran = c .before .before .before .before .before .before .before .before .before .before .before .before .run-lent in
+    λ tally. replay-kept (a .log .now) _ (ran .result .verdict) _ (ran .ensures tally) (a .out .now) (λ h. rw (c .enum-told4 .given .1) at h)
 
 pub replay-lent-spec : {M : Type 1} → statement M
 replay-lent-spec =
@@ -136,6 +160,7 @@ replay-lent-spec =
     copy-log-requires
     enum-told-2
     enum-told-3
+    enum-told-4
     same-length
     same-length-2
     same-length-3
@@ -154,4 +179,10 @@ replay-lent-spec =
     same-length-14
     same-length-15
     same-length-16
-    returns-3)
+    returns-3
+    same-length-17
+    same-length-18
+    same-length-19
+    same-length-20
+    same-length-21
+    returns-4)

@@ -1,13 +1,16 @@
--- `judge::run::run` meets its contract. The invariant: the run of what is left, from what is held, gives what the whole run gives,
--- and the tally keeps the count of the live cells.
+-- `judge::run::run` meets its contract. The invariant: the run of what is left, from what is held, gives what the whole run gives, the place is
+-- the offset of the next field, and the tally keeps the count of the live cells.
 use Prim.Native.Nat.{_-_, _≤_}
-use Rattle.judge.proofs.Running.{loop-end, loop-ended, loop-on, loop-stopped, onward-on, read-got, run-opened, turn-got, turn-onward}
+use Rattle.fields.proofs.Framing.{placed-got, placed-refused}
+use Rattle.judge.proofs.Running.{loop-end, loop-ended, loop-on, loop-stopped, offset-on, onward-on, read-got, run-opened, told-ended, told-on, told-outcome, turn-got, turn-onward}
 use Rattle.judge.specs.Runs.{runFrom}
 use Rattle.judge.specs.Steps.{Counts}
+use Rattle.rules.specs.Log.{offsetOf}
+use Rattle.rules.specs.Run.{Accepted, Refused}
 use Rattle.rules.specs.State.{freshBoard, freshTally, stateOf}
 use borrow.Author.Needs.{needs}
 use lib.ListN.{drop, length}
-use mathlib.Core.Path.{_≡_, _∙_, refl, sym}
+use mathlib.Core.Path.{_≡_, _∙_, ap, refl, sym}
 use native.Mathlib.Omega.{arith}
 use Rattle.judge.proofs.run.run.Statement.{statement}
 use Rattle.judge.proofs.run.run.Tie as tie
@@ -18,6 +21,7 @@ Inv-loop log selectors₀ numbers₀ status₀ board₀ tally₀ at₀ selectors
     × (((tally .fields ≤ 4096) × (tally .mallocs ≤ tally .fields))
     × (runFrom (4096 - tally .fields) (drop at log) (stateOf board tally selectors numbers status) ≡ runFrom 4096 log (stateOf freshBoard freshTally selectors₀ numbers₀ status₀)))
     × Counts tally status
+    × (at ≡ offsetOf (tally .fields) log)
 
 abbrev μ-loop : tie.MeasureT-loop
 μ-loop log selectors₀ numbers₀ status₀ board₀ tally₀ at₀ selectors numbers status board tally at = length log - at
@@ -29,10 +33,10 @@ fresh-requires-2 : tie.Need-fresh-requires-2 Inv-loop μ-loop
 fresh-requires-2 c κs = search needs
 
 loop-holds : tie.Need-loop-holds Inv-loop μ-loop
-loop-holds c = rw (c .fresh2 .ensures, c .before .fresh .ensures) ((omega arith, (refl, (refl, refl))), ((omega arith, omega arith), refl), c .before .before .before .before .before .before .pre .1)
+loop-holds c = rw (c .fresh2 .ensures, c .before .fresh .ensures) ((omega arith, (refl, (refl, refl))), ((omega arith, omega arith), refl), c .before .before .before .before .before .before .pre .1, refl)
 
 read-at-requires : tie.Need-read-at-requires Inv-loop μ-loop
-read-at-requires c κs = c .loop-test .taken
+read-at-requires c κs = (c .loop-test .taken, c .before .before .before .before .before .before .before .before .pre .0)
 
 enum-known-field : tie.Need-enum-known-field Inv-loop μ-loop
 enum-known-field c = search needs
@@ -55,10 +59,11 @@ loop-less c =
     let s = stateOf (h .board) (h .tally) (h .selectors) (h .numbers) (h .status) in
     let within = c .before .before .before .before .before .before .before .before .before .before .before .before .before .before .before .before .before .before .before .before .loop-test .taken in
     let got = c .before .before .before .before .before .before .before .before .before .before .before .before .before .before .before .before .before .field .given in
-    let read = read-got (h .tally .fields) (drop (h .at) log) (got .0 .0) (sym (c .before .before .before .before .before .before .before .before .before .before .before .before .before .before .before .before .before .before .before .read-at .ensures) ∙ got .1) in
-    let stepped = c .before .before .before .before .before .before .before .before .before .before .before .before .step .ensures .0 in
-    let on = sym (c .before .before .before .next-after .ensures) ∙ c .before .place .given .1 in
-    let o = onward-on _ _ (h .at) (length log) s _ on (turn-onward log (h .at) within (got .0 .0) (read .1) s _ stepped) in
+    let f = got .0 .0 in
+    let read = read-got (h .tally .fields) (drop (h .at) log) f (placed-got (h .at) _ f _ (sym (c .before .before .before .before .before .before .before .before .before .before .before .before .before .before .before .before .before .before .before .read-at .ensures) ∙ got .1)) in
+    let step = c .before .before .before .before .before .before .before .before .before .before .before .before .step in
+    let on = told-on (step .result .answer) (h .tally .fields) f (h .at) _ (sym (c .before .before .before .next-after .ensures) ∙ c .before .place .given .1) in
+    let o = onward-on _ _ (h .at) (length log) s _ (on .0) (turn-onward log (h .at) within f (read .1) s _ (step .ensures .0)) in
     omega (arith, o .0 .0, o .0 .1)
 
 loop-again : tie.Need-loop-again Inv-loop μ-loop
@@ -68,16 +73,18 @@ loop-again c =
     let s = stateOf (h .board) (h .tally) (h .selectors) (h .numbers) (h .status) in
     let within = c .before .before .before .before .before .before .before .before .before .before .before .before .before .before .before .before .before .before .before .before .loop-test .taken in
     let got = c .before .before .before .before .before .before .before .before .before .before .before .before .before .before .before .before .before .field .given in
-    let read = read-got (h .tally .fields) (drop (h .at) log) (got .0 .0) (sym (c .before .before .before .before .before .before .before .before .before .before .before .before .before .before .before .before .before .before .before .read-at .ensures) ∙ got .1) in
-    let stepped = c .before .before .before .before .before .before .before .before .before .before .before .before .step .ensures .0 in
-    let on = sym (c .before .before .before .next-after .ensures) ∙ c .before .place .given .1 in
-    let o = onward-on _ _ (h .at) (length log) s _ on (turn-onward log (h .at) within (got .0 .0) (read .1) s _ stepped) in (
+    let f = got .0 .0 in
+    let read = read-got (h .tally .fields) (drop (h .at) log) f (placed-got (h .at) _ f _ (sym (c .before .before .before .before .before .before .before .before .before .before .before .before .before .before .before .before .before .before .before .read-at .ensures) ∙ got .1)) in
+    let step = c .before .before .before .before .before .before .before .before .before .before .before .before .step in
+    let on = told-on (step .result .answer) (h .tally .fields) f (h .at) _ (sym (c .before .before .before .next-after .ensures) ∙ c .before .place .given .1) in
+    let o = onward-on _ _ (h .at) (length log) s _ (on .0) (turn-onward log (h .at) within f (read .1) s _ (step .ensures .0)) in (
       (o .0 .1, search (needs, h .inv .0 .1)),
       (
         (omega (arith, o .1 .0, read .0), omega (arith, o .1 .0, o .1 .1, h .inv .1 .0 .1)),
-        loop-on log (h .at) within _ s _ _ _ _ (turn-got log (h .at) within (got .0 .0) (read .1) s _ stepped) (omega (arith, o .1 .0, read .0)) (h .inv .1 .1) _ on,
+        loop-on log (h .at) within _ s _ _ _ _ (turn-got log (h .at) within f (read .1) s _ (step .ensures .0)) (omega (arith, o .1 .0, read .0)) (h .inv .1 .1) _ (on .0),
       ),
-      c .before .before .before .before .before .before .before .before .before .before .before .before .step .ensures .1,
+      step .ensures .1,
+      offset-on (h .tally .fields) _ log (h .at) _ f (h .inv .3) (read .1) (on .1) (o .1 .0),
     )
 
 enum-known-verdict : tie.Need-enum-known-verdict Inv-loop μ-loop
@@ -102,13 +109,13 @@ returns c =
     let s = stateOf (h .board) (h .tally) (h .selectors) (h .numbers) (h .status) in
     let within = c .before .before .before .before .before .before .before .before .before .before .before .before .before .before .before .before .before .before .before .before .before .loop-test .taken in
     let got = c .before .before .before .before .before .before .before .before .before .before .before .before .before .before .before .before .before .before .field .given in
-    let read = read-got (h .tally .fields) (drop (h .at) log) (got .0 .0) (sym (c .before .before .before .before .before .before .before .before .before .before .before .before .before .before .before .before .before .before .before .before .read-at .ensures) ∙ got .1) in
-    let stepped = c .before .before .before .before .before .before .before .before .before .before .before .before .before .step .ensures .0 in
-    rw (c .ended .ensures) (
-      loop-ended log (h .at) within _ s _ _ _ (4095 - h .tally .fields) (turn-got log (h .at) within (got .0 .0) (read .1) s _ stepped) (omega (arith, read .0)) (h .inv .1 .1) _ (sym (c .before .before .before .before .next-after .ensures) ∙ c .before .before .verdict .given .1)
-          ∙ run-opened _ _ _,
-      c .before .before .before .before .before .before .before .before .before .before .before .before .before .step .ensures .1,
-    )
+    let f = got .0 .0 in
+    let read = read-got (h .tally .fields) (drop (h .at) log) f (placed-got (h .at) _ f _ (sym (c .before .before .before .before .before .before .before .before .before .before .before .before .before .before .before .before .before .before .before .before .read-at .ensures) ∙ got .1)) in
+    let step = c .before .before .before .before .before .before .before .before .before .before .before .before .before .step in
+    let end = told-ended (step .result .answer) (h .tally .fields) f (h .at) _ (sym (c .before .before .before .before .next-after .ensures) ∙ c .before .before .verdict .given .1) in
+    let ran = loop-ended log (h .at) within _ s _ _ _ (4095 - h .tally .fields) (turn-got log (h .at) within f (read .1) s _ (step .ensures .0)) (omega (arith, read .0)) (h .inv .1 .1) _ (end .1) ∙ run-opened _ _ _ in
+    let told = told-outcome log _ (end .0) _ (h .at) (h .inv .3 ∙ ap (λ n. offsetOf n log) (sym (end .3))) ran in
+    rw (c .ended .ensures) ((end .2 ∙ told .0, told .1), step .ensures .1)
 
 enum-known-why : tie.Need-enum-known-why Inv-loop μ-loop
 enum-known-why c = search needs
@@ -128,12 +135,13 @@ same-length-6 c = search needs
 returns-2 : tie.Need-returns-2 Inv-loop μ-loop
 returns-2 c =
     let h = c .before .before .before .before .before .before .loop in
+    let log = c .before .before .before .before .before .before .before .before .before .before .before .before .before .args .log .now in
     let s = stateOf (h .board) (h .tally) (h .selectors) (h .numbers) (h .status) in
-    rw (c .ended2 .ensures) (
-      loop-stopped (c .before .before .before .before .before .before .before .before .before .before .before .before .before .args .log .now) (h .at) (c .before .before .before .before .before .loop-test .taken) s _ _ _ refl (h .inv .1 .1) (sym (c .before .before .before .before .read-at .ensures) ∙ c .before .before .why .given .1)
-          ∙ run-opened _ _ _,
-      h .inv .2,
-    )
+    let why = c .before .before .why .given in
+    let read = placed-refused (h .at) _ (why .0 .0) _ (sym (c .before .before .before .before .read-at .ensures) ∙ why .1) in
+    let ran = loop-stopped log (h .at) (c .before .before .before .before .before .loop-test .taken) s _ _ _ refl (h .inv .1 .1) (read .0) ∙ run-opened _ _ _ in
+    let told = told-outcome log _ (Refused (why .0 .0) (h .tally .fields)) s (h .at) (h .inv .3) ran in
+    rw (c .ended2 .ensures, read .1) (told, h .inv .2)
 
 ended-requires-3 : tie.Need-ended-requires-3 Inv-loop μ-loop
 ended-requires-3 c κs = search needs
@@ -150,12 +158,11 @@ same-length-9 c = search needs
 returns-3 : tie.Need-returns-3 Inv-loop μ-loop
 returns-3 c =
     let h = c .before .before .loop in
+    let log = c .before .before .before .before .before .before .before .before .before .args .log .now in
     let s = stateOf (h .board) (h .tally) (h .selectors) (h .numbers) (h .status) in
-    rw (c .ended3 .ensures) (
-      loop-end (c .before .before .before .before .before .before .before .before .before .args .log .now) (h .at) s _ _ _ (c .before .loop-test .left) (h .inv .1 .1) (h .inv .2 .kept)
-          ∙ run-opened _ _ _,
-      h .inv .2,
-    )
+    let ran = loop-end log (h .at) s _ _ _ (c .before .loop-test .left) (h .inv .1 .1) (h .inv .2 .kept) ∙ run-opened _ _ _ in
+    let told = told-outcome log _ (Accepted (h .tally .fields) (h .tally .mallocs) (h .tally .live)) s (h .at) (h .inv .3) ran in
+    rw (c .ended3 .ensures) (told, h .inv .2)
 
 pub run-spec : {M : Type 1} → statement M
 run-spec =

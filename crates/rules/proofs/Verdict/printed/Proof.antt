@@ -9,11 +9,11 @@ enum-known-self c = search needs
 enum-known-self-2 : tie.Need-enum-known-self-2
 enum-known-self-2 c = search needs
 
-cast-t19 : tie.Need-cast-t19
-cast-t19 c = search needs
+cast-t23 : tie.Need-cast-t23
+cast-t23 c = search needs
 
-cast-t20 : tie.Need-cast-t20
-cast-t20 c = search needs
+cast-t24 : tie.Need-cast-t24
+cast-t24 c = search needs
 
 enum-known-self-3 : tie.Need-enum-known-self-3
 enum-known-self-3 c = search needs
@@ -21,8 +21,17 @@ enum-known-self-3 c = search needs
 number-requires : tie.Need-number-requires
 number-requires c κs = search needs
 
-cast-t25 : tie.Need-cast-t25
-cast-t25 c = search needs
+cast-t29 : tie.Need-cast-t29
+cast-t29 c = search needs
+
+enum-known-self-4 : tie.Need-enum-known-self-4
+enum-known-self-4 c = search needs
+
+number-requires-2 : tie.Need-number-requires-2
+number-requires-2 c κs = search needs
+
+cast-t34 : tie.Need-cast-t34
+cast-t34 c = search needs
 
 returns : tie.Need-returns
 returns c = rw (c .before .before .before .self .given .1)
@@ -33,17 +42,24 @@ returns-2 c = rw (c .before .before .before .self2 .given .1)
 returns-3 : tie.Need-returns-3
 returns-3 c = rw (c .before .before .before .before .self3 .given .1, c .number .ensures)
 
+returns-4 : tie.Need-returns-4
+returns-4 c = rw (c .before .before .before .before .self4 .given .1, c .number2 .ensures)
+
 pub printed-spec : {M : Type 1} → statement M
 printed-spec =
     tie.close
     (tie.spec
     enum-known-self
     enum-known-self-2
-    cast-t19
-    cast-t20
+    cast-t23
+    cast-t24
     enum-known-self-3
     number-requires
-    cast-t25
+    cast-t29
+    enum-known-self-4
+    number-requires-2
+    cast-t34
     returns
     returns-2
-    returns-3)
+    returns-3
+    returns-4)

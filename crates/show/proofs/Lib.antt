@@ -1,0 +1,4 @@
+-- The laws that the proofs of this crate share.
+-- Assumes nothing.
+pub mod Seeking
+pub mod OneResult
