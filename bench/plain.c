@@ -16,13 +16,22 @@ typedef struct {
     uint8_t *status;
     uint32_t *answer;
     uint32_t fields, mallocs, live;
+    uint32_t at; /* where the field begins */
 } Run;
 
 /* ---- verdicts */
 
+/* A refusal of the whole call, which is met at no field. */
+static uint32_t decline(Run *run, uint32_t number) {
+    run->answer[0] = number;
+    run->answer[1] = 0;
+    return REFUSED;
+}
+
 static uint32_t refuse(Run *run, uint32_t number) {
     run->answer[0] = number;
     run->answer[1] = run->fields;
+    run->answer[2] = run->at;
     return REFUSED;
 }
 
@@ -30,6 +39,7 @@ static uint32_t race(Run *run, uint8_t thread, uint8_t variable) {
     run->answer[0] = run->fields;
     run->answer[1] = thread;
     run->answer[2] = variable;
+    run->answer[3] = run->at;
     return RACE;
 }
 
@@ -178,6 +188,7 @@ static uint32_t step(Run *run, uint8_t tag, const uint8_t *v) {
 static uint32_t run_log(Run *run, const uint8_t *log, size_t length) {
     size_t at = 0;
     while (at < length) {
+        run->at = (uint32_t)at;
         if (run->fields >= LOG_FIELDS) return refuse(run, 3);
         uint32_t why = check_field(log + at, length - at);
         if (why) return refuse(run, why);
@@ -204,12 +215,12 @@ uint32_t plain_judge(const uint8_t *log, size_t log_length,
                      uint8_t *status, size_t status_length,
                      uint32_t *tally, size_t tally_length,
                      uint32_t *answer, size_t answer_length) {
-    Run run = {pointers, selectors, variables, numbers, status, answer, 0, 0, 0};
-    if (tally_length < 3 || answer_length < 3) return NO_ROOM;
-    if (log_length > LOG_BYTES) return refuse(&run, 1);
+    Run run = {pointers, selectors, variables, numbers, status, answer, 0, 0, 0, 0};
+    if (tally_length < 3 || answer_length < 4) return NO_ROOM;
+    if (log_length > LOG_BYTES) return decline(&run, 1);
     if (pointers_length < VARIABLES || selectors_length < SELECTORS || variables_length < VARIABLES ||
         numbers_length < CELLS || status_length < CELLS)
-        return refuse(&run, 2);
+        return decline(&run, 2);
     start_fresh(&run);
     uint32_t kind = run_log(&run, log, log_length);
     tally[0] = run.fields;

@@ -13,6 +13,8 @@ ROWS = {1: "pcn", 2: "p", 3: "pp", 4: "pps", 5: "psp", 6: "xp", 7: "px", 8: "xn"
         14: "ppp", 15: "ppp"}
 LENGTH = {1: 8, 2: 2, 3: 3, 4: 4, 5: 4, 6: 3, 7: 3, 8: 6, 9: 3, 10: 3, 11: 3, 12: 3, 13: 4, 14: 4, 15: 4}
 ROOM = 24
+# the place that the program gives every part, which the reader tells as the byte offset
+PLACE = 45055
 
 
 def may_name(thread, x):
@@ -92,7 +94,7 @@ records, lines = [], []
 
 def add_read(part):
     records.append(bytes([1 + len(part), 0]) + part)
-    lines.append(read(part))
+    lines.append(f"{read(part)} {PLACE}")
 
 
 def add_write(tag, thread, slots, cell, number, room):

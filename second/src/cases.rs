@@ -4,7 +4,7 @@
 use crate::field::{encode, row_of, Field, *};
 use crate::heap::{Heap, INVALID, UNSET};
 use crate::judge::{Judge, Tally};
-use crate::replay::write_replay;
+use crate::replay::replay_of;
 
 fn bytes(fields: &[Field]) -> Vec<u8> {
     let encoded = |field: &Field| encode(row_of(field.tag).unwrap(), field);
@@ -34,12 +34,7 @@ fn line(fields: &[Field]) -> String {
 }
 
 fn replay(log: &[u8]) -> Vec<u8> {
-    let mut output = vec![0; log.len()];
-    let mut heap = Heap::fresh();
-    let judge = Judge::default();
-    let verdict = write_replay(&judge, log, &mut heap, &mut Tally::default(), &mut output);
-    assert!(verdict.is_accepted());
-    output
+    replay_of(&Judge::default(), log).expect("the log is accepted")
 }
 
 fn case_c() -> Vec<Field> {
@@ -81,14 +76,14 @@ fn case_c_by_fields_and_by_bytes() {
     ];
     assert_eq!(typed.len(), 28);
     assert_eq!(bytes(&case_c()), typed);
-    assert_eq!(judged(&typed).0, "race 3 1 24");
+    assert_eq!(judged(&typed).0, "race 3 1 24 22");
 }
 
 #[test]
 fn case_d() {
     let mut fields = case_c();
     fields.insert(3, m(1, 5, 7));
-    assert_eq!(line(&fields), "race 4 1 24");
+    assert_eq!(line(&fields), "race 4 1 24 33");
 }
 
 #[test]
@@ -105,17 +100,17 @@ fn case_e_and_its_replay() {
 fn case_f() {
     let mut fields = case_e();
     fields.push(Field::of(SAME_CELL, &[0, 16, 1]));
-    assert_eq!(line(&fields), "race 6 0 16");
+    assert_eq!(line(&fields), "race 6 0 16 52");
 }
 
 #[test]
 fn case_g() {
-    assert_eq!(line(&[m(0, 5, 0), m(0, 5, 0)]), "refused 13 1");
+    assert_eq!(line(&[m(0, 5, 0), m(0, 5, 0)]), "refused 13 1 11");
 }
 
 #[test]
 fn case_h() {
-    assert_eq!(line(&[Field::of(GET_DATA, &[0, 0, 0])]), "refused 12 0");
+    assert_eq!(line(&[Field::of(GET_DATA, &[0, 0, 0])]), "refused 12 0 0");
 }
 
 #[test]
@@ -131,7 +126,7 @@ fn case_j() {
 #[test]
 fn case_k() {
     let fields = [m(0, 5, 0), Field::of(OTHER_CELL, &[0, 0, 0])];
-    assert_eq!(line(&fields), "refused 14 1");
+    assert_eq!(line(&fields), "refused 14 1 11");
 }
 
 #[test]
@@ -149,7 +144,7 @@ fn case_l_and_its_replay() {
 fn case_n() {
     let mut fields = [m(0, 5, 0), free(0)].repeat(1024);
     fields.push(m(0, 5, 0));
-    assert_eq!(line(&fields), "refused 11 2048");
+    assert_eq!(line(&fields), "refused 11 2048 16384");
 }
 
 #[test]
@@ -162,7 +157,7 @@ fn case_o() {
         free(16),
     ];
     let (line, heap) = judged(&bytes(&fields));
-    assert_eq!(line, "race 4 0 16");
+    assert_eq!(line, "race 4 0 16 34");
     assert_eq!(heap.pointers[16], 3072);
     assert_eq!(3072, UNSET + INVALID);
 }
@@ -181,14 +176,14 @@ fn case_p() {
 #[test]
 fn case_q() {
     assert_eq!(line(&[Field::of(FREE, &[7, 79])]), "accepted 1 0 0");
-    assert_eq!(line(&[Field::of(FREE, &[7, 80])]), "refused 8 0");
-    assert_eq!(line(&[Field::of(FREE, &[8, 79])]), "refused 7 0");
+    assert_eq!(line(&[Field::of(FREE, &[7, 80])]), "refused 8 0 0");
+    assert_eq!(line(&[Field::of(FREE, &[8, 79])]), "refused 7 0 0");
 }
 
 #[test]
 fn case_r() {
     assert_eq!(line(&[m(0, 1023, 0)]), "accepted 1 1 1");
-    assert_eq!(line(&[m(0, 1024, 0)]), "refused 10 0");
+    assert_eq!(line(&[m(0, 1024, 0)]), "refused 10 0 0");
 }
 
 #[test]
@@ -196,12 +191,12 @@ fn case_s() {
     let mut log = bytes(&[free(0)].repeat(4096));
     assert_eq!(judged(&log).0, "accepted 4096 0 0");
     log.push(0);
-    assert_eq!(judged(&log).0, "refused 3 4096");
+    assert_eq!(judged(&log).0, "refused 3 4096 20480");
 }
 
 #[test]
 fn case_t() {
-    assert_eq!(judged(&[0; 45_056]).0, "refused 5 0");
+    assert_eq!(judged(&[0; 45_056]).0, "refused 5 0 0");
     assert_eq!(judged(&[0; 45_057]).0, "refused 1 0");
 }
 
@@ -230,10 +225,10 @@ fn cas_that_holds() {
 fn cas_that_does_not_hold() {
     let unequal = [m(0, 5, 0), m(1, 6, 0), cas_done(0, 1, 1)];
     let (line, heap) = judged(&bytes(&unequal));
-    assert_eq!(line, "refused 14 2");
+    assert_eq!(line, "refused 14 2 22");
     assert_eq!(heap.pointers[0], 5);
     let equal = [m(0, 5, 0), cas_failed(0, 0, 1)];
-    assert_eq!(self::line(&equal), "refused 14 1");
+    assert_eq!(self::line(&equal), "refused 14 1 11");
 }
 
 /// p1 keeps the cell of p0, which is freed and, at times, given out again.
@@ -249,9 +244,9 @@ fn cas_that_races() {
     for cas in [cas_done, cas_failed] {
         let line = |again, last| judged(&stale_p1(again, last)).0;
         // Both are stale, and p is looked at first.
-        assert_eq!(line(false, cas(1, 0, 2)), "race 3 0 1");
-        assert_eq!(line(true, cas(1, 0, 2)), "race 4 0 1");
-        assert_eq!(line(true, cas(0, 1, 2)), "race 4 0 1");
+        assert_eq!(line(false, cas(1, 0, 2)), "race 3 0 1 22");
+        assert_eq!(line(true, cas(1, 0, 2)), "race 4 0 1 33");
+        assert_eq!(line(true, cas(0, 1, 2)), "race 4 0 1 33");
     }
 }
 
@@ -276,8 +271,8 @@ fn cas_only_copies_r() {
 
 #[test]
 fn cas_names_no_foreign_r() {
-    assert_eq!(line(&[cas_failed(0, 0, 24)]), "refused 8 0");
-    assert_eq!(judged(&[16, 4, 0, 0, 0, 0, 0]).0, "refused 5 0");
+    assert_eq!(line(&[cas_failed(0, 0, 24)]), "refused 8 0 0");
+    assert_eq!(judged(&[16, 4, 0, 0, 0, 0, 0]).0, "refused 5 0 0");
 }
 
 /// Source 004, Example 1: one thread at Treiber's stack, whose top is p0.
@@ -337,7 +332,7 @@ fn cas_of_the_aba_races() {
     assert_eq!(line(&alone), "accepted 15 2 1");
     let other = [fast.begin_pop(), fast.end_pop(), fast.push(7), fast.push(5)].concat();
     let (line, heap) = judged(&bytes(&[begin, other, slow.end_pop()].concat()));
-    assert_eq!(line, "race 27 0 16");
+    assert_eq!(line, "race 27 0 16 192");
     // Without the mark the two sides are equal.
     assert_eq!((heap.pointers[0], heap.pointers[16]), (5, 2053));
 }

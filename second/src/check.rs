@@ -1,14 +1,15 @@
-//! Properties that document 01 demands, checked on random logs.
+//! Properties that documents 01 and 02 demand, checked on random logs.
 
-use crate::field::{self, Field, Slot::*, MALLOC};
+use crate::field::{self, Field, Slot::*, HEADER, MALLOC};
 use crate::heap::*;
 use crate::hex::to_hex;
-use crate::judge::{Cursor, Judge, Tally, Verdict};
+use crate::judge::{Cursor, Judge, Tally, Verdict, MAX_FIELDS};
 use crate::lines::{Kind, Summary};
 use crate::plain::{judge_plainly, PlainHeap};
 use crate::random::{edge_field, make_log, Random};
-use crate::refusal::{HEAP_TOO_SHORT, LOG_TOO_LONG, OUTPUT_TOO_SHORT};
-use crate::replay::write_replay;
+use crate::refusal::*;
+use crate::replay::{replay_of, write_replay};
+use crate::show::{show, Choice};
 
 type Checked = Result<(), String>;
 
@@ -42,6 +43,9 @@ fn check_log(judge: &Judge, log: &[u8], random: &mut Random) -> Result<Verdict, 
     check_live_count(&recording)?;
     check_fields(log)?;
     check_written_field(random)?;
+    check_place(log, &verdict)?;
+    check_shown_stop(log, &verdict)?;
+    check_shown_pair(judge, log, random)?;
     check_replay(judge, log, &recording)?;
     check_short_output(judge, log, random)?;
     check_without_marks(judge, log, &recording)?;
@@ -115,6 +119,66 @@ fn check_written_field(random: &mut Random) -> Checked {
             let same = read == Err(number) || (number == OUTPUT_TOO_SHORT && read.is_ok());
             ensure(same, "reader and writer refuse differently")
         }
+    }
+}
+
+/// Order 3: a stop's offset is where the lengths of the fields before end.
+fn check_place(log: &[u8], verdict: &Verdict) -> Checked {
+    verdict.place().map_or(Ok(()), |place| {
+        let past = |start: usize, _| start + HEADER + usize::from(log[start + 1]);
+        let right = (0..place.field).fold(0, past) == place.offset;
+        ensure(right, "a stop is not at its offset")
+    })
+}
+
+/// The field of a stop is shown from the stop's offset on, unless it was a
+/// reading check that stopped there.
+fn check_shown_stop(log: &[u8], verdict: &Verdict) -> Checked {
+    let place = match verdict.place() {
+        Some(place) => place,
+        None => return Ok(()),
+    };
+    let shown = show(log, &[], Choice::Recording, place.field);
+    match *verdict {
+        Verdict::Refused { number, .. } if number <= TOO_MANY_MALLOCS => {
+            let refused = shown == Err(Verdict::RefusedOutright(FIELD_NOT_READ));
+            ensure(refused, "a field that is not read is shown")
+        }
+        _ => {
+            let part = shown.map_err(|stop| format!("a stop's field is {stop}"))?;
+            let starts_there = log[place.offset..].starts_with(part);
+            ensure(starts_there && is_one_field(part), "a stop's part is wrong")
+        }
+    }
+}
+
+fn is_one_field(part: &[u8]) -> bool {
+    field::read(part).map_or(false, |field| field.size() == part.len())
+}
+
+/// The parts of one field number, of an accepted log and its replay, are equal
+/// but for a malloc's cell and data.
+fn check_shown_pair(judge: &Judge, log: &[u8], random: &mut Random) -> Checked {
+    let replay = match replay_of(judge, log) {
+        Ok(replay) => replay,
+        Err(_) => return Ok(()),
+    };
+    let number = random.below(MAX_FIELDS.min(log.len() / 4 + 1));
+    let part = |choice| show(log, &replay, choice, number);
+    match (part(Choice::Recording), part(Choice::Replay)) {
+        (Ok(recorded), Ok(copied)) => {
+            let own = if recorded[0] == MALLOC {
+                HEADER + 2
+            } else {
+                recorded.len()
+            };
+            let alike = recorded.len() == copied.len() && recorded[..own] == copied[..own];
+            ensure(
+                alike && is_one_field(recorded),
+                "the parts of a pair differ",
+            )
+        }
+        (recorded, copied) => ensure(recorded == copied, "only one part of a pair is shown"),
     }
 }
 
@@ -192,12 +256,12 @@ impl<'log> Side<'log> {
 
     fn next(&mut self, judge: &Judge) -> Result<Option<Field>, String> {
         let stopped = |stop: Verdict| format!("stopped with {stop}");
-        let field = self.cursor.next_field(self.tally.fields).map_err(stopped)?;
-        if let Some(field) = &field {
+        let next = self.cursor.next_field().map_err(stopped)?;
+        if let Some((field, place)) = &next {
             let stepped = judge.step(field, &mut self.heap, &mut self.tally);
-            stepped.map_err(stopped)?;
+            stepped.map_err(|stop| stopped(stop.at(*place)))?;
         }
-        Ok(field)
+        Ok(next.map(|(field, _)| field))
     }
 }
 
@@ -258,7 +322,7 @@ fn check_short_output(judge: &Judge, log: &[u8], random: &mut Random) -> Checked
     let verdict = write_replay(judge, log, &mut heap, &mut tally, &mut output);
     let is_outright = [LOG_TOO_LONG, OUTPUT_TOO_SHORT]
         .iter()
-        .any(|&number| verdict == Verdict::refused_outright(number));
+        .any(|&number| verdict == Verdict::RefusedOutright(number));
     ensure(is_outright, "a short output is not refused")?;
     ensure(heap == foreign, "a short output changed the heap")?;
     ensure(tally == FOREIGN_TALLY, "a short output changed the tally")?;
@@ -360,7 +424,7 @@ fn check_short_buffer(judge: &Judge, log: &[u8], random: &mut Random) -> Checked
     let judged = Judged::of(judge, log, short.clone());
     let is_outright = [LOG_TOO_LONG, HEAP_TOO_SHORT]
         .iter()
-        .any(|&number| judged.verdict == Verdict::refused_outright(number));
+        .any(|&number| judged.verdict == Verdict::RefusedOutright(number));
     ensure(is_outright, "a short buffer is not refused")?;
     ensure(judged.heap == short, "a short buffer's heap is changed")?;
     ensure(

@@ -16,12 +16,7 @@ pub fn compare(
     count: u64,
     command: &[String],
 ) -> Result<Summary, String> {
-    let mut child = Command::new(&command[0])
-        .args(&command[1..])
-        .stdin(Stdio::piped())
-        .stdout(Stdio::piped())
-        .spawn()
-        .map_err(|error| format!("cannot start {}: {error}", command[0]))?;
+    let mut child = start(command)?;
     let input = child.stdin.take().expect("the input is a pipe");
     let output = child.stdout.take().expect("the output is a pipe");
     // From a thread, or both sides could wait for the other to read. The logs
@@ -37,6 +32,16 @@ pub fn compare(
             Err(difference)
         }
     }
+}
+
+/// Starts a command whose input and output are pipes.
+pub fn start(command: &[String]) -> Result<Child, String> {
+    Command::new(&command[0])
+        .args(&command[1..])
+        .stdin(Stdio::piped())
+        .stdout(Stdio::piped())
+        .spawn()
+        .map_err(|error| format!("cannot start {}: {error}", command[0]))
 }
 
 fn finish(mut child: Child, feeder: JoinHandle<io::Result<()>>) -> Result<(), String> {
@@ -84,7 +89,7 @@ fn next_line(input: &mut impl BufRead) -> Result<Option<Vec<u8>>, String> {
     Ok(Some(line))
 }
 
-fn difference(seed: u64, index: u64, log: &[u8], own: &str, their: &[u8]) -> String {
+pub fn difference(seed: u64, index: u64, log: &[u8], own: &str, their: &[u8]) -> String {
     let log = to_hex(log);
     let their = String::from_utf8_lossy(their);
     format!("difference at log {index} of seed {seed}\nlog: {log}\nown: {own}\ntheirs: {their}")

@@ -10,6 +10,12 @@ pub fn to_hex(bytes: &[u8]) -> String {
     text
 }
 
+/// The same with a space between the bytes.
+pub fn to_spaced_hex(bytes: &[u8]) -> String {
+    let pairs: Vec<String> = bytes.iter().map(|&byte| to_hex(&[byte])).collect();
+    pairs.join(" ")
+}
+
 /// The bytes of a text of digit pairs, `None` where it is none.
 pub fn from_hex(text: &str) -> Option<Vec<u8>> {
     let digits: Option<Vec<u8>> = text

@@ -29,6 +29,35 @@ impl Tally {
     }
 }
 
+/// Where a field stands in its log.
+#[derive(Clone, Copy, PartialEq, Eq, Debug, Default)]
+pub struct Place {
+    /// The field's number, from 0.
+    pub field: usize,
+    /// How many bytes of the log come before it.
+    pub offset: usize,
+}
+
+/// Why a field stops the run.
+#[derive(Clone, Copy, PartialEq, Eq, Debug)]
+pub enum Stop {
+    Race { thread: u32, variable: u32 },
+    Refused(u8),
+}
+
+impl Stop {
+    pub fn at(self, place: Place) -> Verdict {
+        match self {
+            Stop::Race { thread, variable } => Verdict::Race {
+                place,
+                thread,
+                variable,
+            },
+            Stop::Refused(number) => Verdict::Refused { number, place },
+        }
+    }
+}
+
 #[derive(Clone, Copy, PartialEq, Eq, Debug)]
 pub enum Verdict {
     Accepted {
@@ -37,14 +66,16 @@ pub enum Verdict {
         live: usize,
     },
     Race {
-        field: usize,
+        place: Place,
         thread: u32,
         variable: u32,
     },
     Refused {
         number: u8,
-        field: usize,
+        place: Place,
     },
+    /// A refusal met at no field; its field number is 0.
+    RefusedOutright(u8),
 }
 
 /// The line the program prints, without its newline.
@@ -57,11 +88,15 @@ impl fmt::Display for Verdict {
                 live,
             } => write!(out, "accepted {fields} {mallocs} {live}"),
             Verdict::Race {
-                field,
+                place: Place { field, offset },
                 thread,
                 variable,
-            } => write!(out, "race {field} {thread} {variable}"),
-            Verdict::Refused { number, field } => write!(out, "refused {number} {field}"),
+            } => write!(out, "race {field} {thread} {variable} {offset}"),
+            Verdict::Refused {
+                number,
+                place: Place { field, offset },
+            } => write!(out, "refused {number} {field} {offset}"),
+            Verdict::RefusedOutright(number) => write!(out, "refused {number} 0"),
         }
     }
 }
@@ -71,8 +106,12 @@ impl Verdict {
         matches!(self, Verdict::Accepted { .. })
     }
 
-    pub fn refused_outright(number: u8) -> Verdict {
-        Verdict::Refused { number, field: 0 }
+    /// Where the run stopped, where that was at a field.
+    pub fn place(&self) -> Option<Place> {
+        match *self {
+            Verdict::Race { place, .. } | Verdict::Refused { place, .. } => Some(place),
+            Verdict::Accepted { .. } | Verdict::RefusedOutright(_) => None,
+        }
     }
 }
 
@@ -107,35 +146,45 @@ pub fn gone_through(tag: u8) -> Option<Slot> {
 
 /// Hands out the fields of a log one after the other, with checks 3 to 10.
 pub struct Cursor<'log> {
-    rest: &'log [u8],
+    log: &'log [u8],
+    next: Place,
 }
 
 impl<'log> Cursor<'log> {
     pub fn new(log: &'log [u8]) -> Cursor<'log> {
-        Cursor { rest: log }
+        let next = Place::default();
+        Cursor { log, next }
     }
 
-    /// The next field after `done` fields, `None` at the end of the log.
-    pub fn next_field(&mut self, done: usize) -> Result<Option<Field>, Verdict> {
-        let refused = |number| Verdict::Refused {
-            number,
-            field: done,
-        };
-        if self.rest.is_empty() {
+    /// The next field and its place, `None` at the end of the log.
+    pub fn next_field(&mut self) -> Result<Option<(Field, Place)>, Verdict> {
+        let place = self.next;
+        let refused = |number| Stop::Refused(number).at(place);
+        let rest = &self.log[place.offset..];
+        if rest.is_empty() {
             return Ok(None);
         }
-        if done >= MAX_FIELDS {
+        if place.field >= MAX_FIELDS {
             return Err(refused(TOO_MANY_FIELDS));
         }
-        let field = field::read(self.rest).map_err(refused)?;
-        self.rest = &self.rest[field.size()..];
-        Ok(Some(field))
+        let field = field::read(rest).map_err(refused)?;
+        self.next.field += 1;
+        self.next.offset += field.size();
+        Ok(Some((field, place)))
     }
+}
 
-    /// How many bytes are still to come.
-    pub fn left(&self) -> usize {
-        self.rest.len()
+/// Goes through the fields of a log with checks 3 to 10, up to the first stop,
+/// which may be one of the action's.
+pub fn each_field(
+    log: &[u8],
+    mut action: impl FnMut(&Field, Place) -> Result<(), Stop>,
+) -> Result<(), Verdict> {
+    let mut cursor = Cursor::new(log);
+    while let Some((field, place)) = cursor.next_field()? {
+        action(&field, place).map_err(|stop| stop.at(place))?;
     }
+    Ok(())
 }
 
 /// The judge, right or with one known fault.
@@ -148,26 +197,18 @@ impl Judge {
     /// Judges a whole log and leaves the heap and tally before the stop.
     pub fn run(&self, log: &[u8], heap: &mut Heap, tally: &mut Tally) -> Verdict {
         if let Some(number) = outright_refusal(log, heap) {
-            return Verdict::refused_outright(number);
+            return Verdict::RefusedOutright(number);
         }
         heap.reset();
         *tally = Tally::default();
-        match self.run_fields(log, heap, tally) {
+        match each_field(log, |field, _| self.step(field, heap, tally)) {
             Ok(()) => tally.accepted(),
             Err(stop) => stop,
         }
     }
 
-    fn run_fields(&self, log: &[u8], heap: &mut Heap, tally: &mut Tally) -> Result<(), Verdict> {
-        let mut cursor = Cursor::new(log);
-        while let Some(field) = cursor.next_field(tally.fields)? {
-            self.step(&field, heap, tally)?;
-        }
-        Ok(())
-    }
-
     /// One field already read: checks 11 to 14 and the race, then its effect.
-    pub fn step(&self, field: &Field, heap: &mut Heap, tally: &mut Tally) -> Result<(), Verdict> {
+    pub fn step(&self, field: &Field, heap: &mut Heap, tally: &mut Tally) -> Result<(), Stop> {
         if let Some(stop) = self.stop(field, heap, tally) {
             return Err(stop);
         }
@@ -177,30 +218,23 @@ impl Judge {
     }
 
     /// What stops the field in this state, in the order 11, race, 12, 13, 14.
-    pub fn stop(&self, field: &Field, heap: &Heap, tally: &Tally) -> Option<Verdict> {
-        let refused = |number| Verdict::Refused {
-            number,
-            field: tally.fields,
-        };
+    pub fn stop(&self, field: &Field, heap: &Heap, tally: &Tally) -> Option<Stop> {
         if field.tag == MALLOC && tally.mallocs >= MAX_MALLOCS {
-            return Some(refused(TOO_MANY_MALLOCS));
+            return Some(Stop::Refused(TOO_MANY_MALLOCS));
         }
         if let Some(variable) = self.racing_variable(field, heap) {
-            return Some(Verdict::Race {
-                field: tally.fields,
-                thread: field[Thread],
-                variable,
-            });
+            let thread = field[Thread];
+            return Some(Stop::Race { thread, variable });
         }
         let unset = |slot: Slot| cell_of(heap.pointers[field.at(slot)]).is_none();
         if gone_through(field.tag).map_or(false, unset) {
-            return Some(refused(UNSET_POINTER));
+            return Some(Stop::Refused(UNSET_POINTER));
         }
         if field.tag == MALLOC && heap.statuses[field.at(Cell)] == LIVE {
-            return Some(refused(CELL_IS_LIVE));
+            return Some(Stop::Refused(CELL_IS_LIVE));
         }
         if !assertion_holds(field, heap) {
-            return Some(refused(ASSERTION_FAILS));
+            return Some(Stop::Refused(ASSERTION_FAILS));
         }
         None
     }

@@ -1,11 +1,11 @@
 //! What is said of a log in one line: columns 2 to 4 of the vectors.
 
-use crate::field::{row_of, HEADER};
+use crate::field::row_of;
 use crate::heap::{Heap, UNSET};
 use crate::hex::to_hex;
 use crate::judge::{Judge, Tally, Verdict};
-use crate::refusal::{ASSERTION_FAILS, HEAP_TOO_SHORT, LOG_TOO_LONG, OUTPUT_TOO_SHORT};
-use crate::replay::write_replay;
+use crate::refusal::ASSERTION_FAILS;
+use crate::replay::replay_of;
 use std::collections::BTreeMap;
 use std::fmt;
 use std::fmt::Write;
@@ -15,30 +15,21 @@ pub fn judged_line(judge: &Judge, log: &[u8]) -> (Verdict, String) {
     let mut heap = Heap::fresh();
     let mut tally = Tally::default();
     let verdict = judge.run(log, &mut heap, &mut tally);
-    let replay = replay_column(judge, log, &verdict);
+    let replay = replay_column(judge, log);
     let state = state_column(&verdict, &heap, &tally);
     (verdict, format!("{verdict}\t{replay}\t{state}"))
 }
 
-fn replay_column(judge: &Judge, log: &[u8], verdict: &Verdict) -> String {
-    if !verdict.is_accepted() {
-        return "-".to_string();
+fn replay_column(judge: &Judge, log: &[u8]) -> String {
+    match replay_of(judge, log) {
+        Err(_) => "-".to_string(),
+        Ok(replay) if replay.is_empty() => "empty".to_string(),
+        Ok(replay) => to_hex(&replay),
     }
-    if log.is_empty() {
-        return "empty".to_string();
-    }
-    let mut output = vec![0; log.len()];
-    let mut heap = Heap::fresh();
-    write_replay(judge, log, &mut heap, &mut Tally::default(), &mut output);
-    to_hex(&output)
 }
 
 fn state_column(verdict: &Verdict, heap: &Heap, tally: &Tally) -> String {
-    if let Verdict::Refused {
-        number: LOG_TOO_LONG | HEAP_TOO_SHORT | OUTPUT_TOO_SHORT,
-        ..
-    } = verdict
-    {
+    if let Verdict::RefusedOutright(_) = verdict {
         return "untouched".to_string();
     }
     let Tally {
@@ -76,12 +67,14 @@ impl Kind {
     pub fn of(log: &[u8], verdict: &Verdict) -> Kind {
         match *verdict {
             Verdict::Accepted { .. } => Kind::Accepted,
-            Verdict::Race { field, .. } => Kind::RaceBy(tag_at(log, field)),
+            Verdict::Race { place, .. } => Kind::RaceBy(log[place.offset]),
             Verdict::Refused {
                 number: ASSERTION_FAILS,
-                field,
-            } => Kind::FailsBy(tag_at(log, field)),
-            Verdict::Refused { number, .. } => Kind::Refused(number),
+                place,
+            } => Kind::FailsBy(log[place.offset]),
+            Verdict::Refused { number, .. } | Verdict::RefusedOutright(number) => {
+                Kind::Refused(number)
+            }
         }
     }
 
@@ -106,15 +99,6 @@ impl fmt::Display for Kind {
 fn named(tag: u8) -> String {
     let command = row_of(tag).map_or("no command", |row| row.command);
     format!("tag {tag} ({command})")
-}
-
-/// The tag of a field that a run has reached.
-fn tag_at(log: &[u8], field: usize) -> u8 {
-    let mut start = 0;
-    for _ in 0..field {
-        start += HEADER + usize::from(log[start + 1]);
-    }
-    log[start]
 }
 
 /// How many logs of each kind there were.

@@ -16,20 +16,26 @@ mod random;
 mod records;
 mod refusal;
 mod replay;
+mod show;
+mod shows;
 mod vectors;
 
 use crate::heap::Heap;
 use crate::judge::{Judge, Tally};
+use crate::show::{line_of, Choice, Request};
 use std::env;
 use std::fs;
 use std::io::{self, BufReader, BufWriter, Read, Write};
 use std::process::ExitCode;
+use std::str::FromStr;
 
 const USAGE: &str = "usage: second [--fault NAME] COMMAND
   judge < log                       print the log's one line
   make SEED COUNT > records         make random logs
   lines < records > lines           print each log's verdict, replay and heap
+  show N [replay] < log             print a field's bytes, of the log or its replay
   compare SEED COUNT COMMAND ARG..  compare with another program's lines
+  shows SEED COUNT COMMAND ARG..    compare with what another program shows
   check SEED COUNT                  check properties on random logs
   vectors FILE                      compare with a file of vectors
 faults: live_now cleared_selectors unset_selectors copy_races replay_copies
@@ -92,6 +98,8 @@ fn dispatch(judge: &Judge, arguments: &[String]) -> Result<(), Trouble> {
     let words: Vec<&str> = arguments.iter().map(String::as_str).collect();
     match words[..] {
         ["judge"] => print_verdict(judge),
+        ["show", field] => print_field(judge, field, Choice::Recording),
+        ["show", field, "replay"] => print_field(judge, field, Choice::Replay),
         ["make", seed, count] => {
             let (seed, count) = (number(seed)?, number(count)?);
             Ok(records::write_made(seed, count, io::stdout().lock())?)
@@ -101,6 +109,11 @@ fn dispatch(judge: &Judge, arguments: &[String]) -> Result<(), Trouble> {
             let (seed, count) = (number(seed)?, number(count)?);
             let summary = compare::compare(judge, seed, count, &arguments[3..])?;
             print_line(&format!("no difference in {summary}"))
+        }
+        ["shows", seed, count, _, ..] => {
+            let (seed, count) = (number(seed)?, number(count)?);
+            let outcomes = shows::compare_shows(judge, seed, count, &arguments[3..])?;
+            print_line(&format!("no difference in {outcomes}"))
         }
         ["check", seed, count] => {
             let summary = check::check(judge, number(seed)?, number(count)?)?;
@@ -115,7 +128,7 @@ fn dispatch(judge: &Judge, arguments: &[String]) -> Result<(), Trouble> {
     }
 }
 
-fn number(text: &str) -> Result<u64, Trouble> {
+fn number<N: FromStr>(text: &str) -> Result<N, Trouble> {
     text.parse().map_err(|_| Trouble::Usage)
 }
 
@@ -124,11 +137,22 @@ fn print_line(text: &str) -> Result<(), Trouble> {
     Ok(writeln!(io::stdout().lock(), "{text}")?)
 }
 
-fn print_verdict(judge: &Judge) -> Result<(), Trouble> {
+fn read_log() -> Result<Vec<u8>, Trouble> {
     let mut log = Vec::new();
     io::stdin().lock().read_to_end(&mut log)?;
+    Ok(log)
+}
+
+fn print_verdict(judge: &Judge) -> Result<(), Trouble> {
+    let log = read_log()?;
     let verdict = judge.run(&log, &mut Heap::fresh(), &mut Tally::default());
     print_line(&verdict.to_string())
+}
+
+fn print_field(judge: &Judge, field: &str, choice: Choice) -> Result<(), Trouble> {
+    let number = number(field)?;
+    let request = Request { number, choice };
+    print_line(&line_of(request.shown(judge, &read_log()?)))
 }
 
 fn print_lines(judge: &Judge) -> Result<(), Trouble> {

@@ -3,7 +3,9 @@
 
 use crate::field::{Field, Slot, Slot::*, *};
 use crate::heap::{CELLS, DATA_VARIABLES, FREED, LIVE, NEVER_USED, POINTERS, SELECTORS};
-use crate::judge::{gone_through, looked_at, Cursor, Verdict, MAX_LOG_BYTES, MAX_MALLOCS};
+use crate::judge::{
+    each_field, gone_through, looked_at, Stop, Verdict, MAX_LOG_BYTES, MAX_MALLOCS,
+};
 use crate::refusal::*;
 
 type Word = Option<usize>;
@@ -23,7 +25,7 @@ pub struct PlainHeap {
 pub fn judge_plainly(log: &[u8]) -> (Verdict, PlainHeap) {
     let mut heap = PlainHeap::fresh();
     if log.len() > MAX_LOG_BYTES {
-        return (Verdict::refused_outright(LOG_TOO_LONG), heap);
+        return (Verdict::RefusedOutright(LOG_TOO_LONG), heap);
     }
     let verdict = match heap.run(log) {
         Ok(()) => heap.accepted(),
@@ -54,33 +56,29 @@ impl PlainHeap {
     }
 
     fn run(&mut self, log: &[u8]) -> Result<(), Verdict> {
-        let mut cursor = Cursor::new(log);
-        while let Some(field) = cursor.next_field(self.fields)? {
-            self.check(&field)?;
-            self.apply(&field);
+        each_field(log, |field, _| {
+            self.check(field)?;
+            self.apply(field);
             self.fields += 1;
             self.mallocs += usize::from(field.tag == MALLOC);
-        }
-        Ok(())
+            Ok(())
+        })
     }
 
-    fn check(&self, field: &Field) -> Result<(), Verdict> {
+    fn check(&self, field: &Field) -> Result<(), Stop> {
         let is_malloc = field.tag == MALLOC;
         let word = |slot: Slot| self.pointers[field.at(slot)];
         let holds_freed = |slot: Slot| word(slot).map_or(false, |a| self.statuses[a] == FREED);
         let refuse_if = |stops: bool, number: u8| {
-            let field = self.fields;
-            let refusal = Verdict::Refused { number, field };
             if stops {
-                Err(refusal)
+                Err(Stop::Refused(number))
             } else {
                 Ok(())
             }
         };
         refuse_if(is_malloc && self.mallocs >= MAX_MALLOCS, TOO_MANY_MALLOCS)?;
         if let Some(&slot) = looked_at(field.tag).iter().find(|&&s| holds_freed(s)) {
-            return Err(Verdict::Race {
-                field: self.fields,
+            return Err(Stop::Race {
                 thread: field[Thread],
                 variable: field[slot],
             });

@@ -1,4 +1,5 @@
-//! The refusals by their numbers; document 01's table says when each is given.
+//! The refusals by their numbers; document 01's table says when each is given,
+//! and order 3 of document 02 when 16 is.
 
 pub const LOG_TOO_LONG: u8 = 1;
 pub const HEAP_TOO_SHORT: u8 = 2;
@@ -15,3 +16,4 @@ pub const UNSET_POINTER: u8 = 12;
 pub const CELL_IS_LIVE: u8 = 13;
 pub const ASSERTION_FAILS: u8 = 14;
 pub const OUTPUT_TOO_SHORT: u8 = 15;
+pub const FIELD_NOT_READ: u8 = 16;

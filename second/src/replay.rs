@@ -3,7 +3,7 @@
 use crate::fault::Fault;
 use crate::field::{self, Field, Slot::*, MALLOC};
 use crate::heap::{Heap, NEVER_USED};
-use crate::judge::{outright_refusal, Cursor, Judge, Tally, Verdict};
+use crate::judge::{each_field, outright_refusal, Judge, Tally, Verdict};
 use crate::refusal::OUTPUT_TOO_SHORT;
 
 /// Judges a log and, where it is accepted, writes its replay at the front of
@@ -16,10 +16,10 @@ pub fn write_replay(
     output: &mut [u8],
 ) -> Verdict {
     if let Some(number) = outright_refusal(log, heap) {
-        return Verdict::refused_outright(number);
+        return Verdict::RefusedOutright(number);
     }
     if output.len() < log.len() {
-        return Verdict::refused_outright(OUTPUT_TOO_SHORT);
+        return Verdict::RefusedOutright(OUTPUT_TOO_SHORT);
     }
     heap.reset();
     *tally = Tally::default();
@@ -33,6 +33,16 @@ pub fn write_replay(
     }
 }
 
+/// The replay of a log, or the verdict of one that has none.
+pub fn replay_of(judge: &Judge, log: &[u8]) -> Result<Vec<u8>, Verdict> {
+    let mut output = vec![0; log.len()];
+    let mut heap = Heap::fresh();
+    match write_replay(judge, log, &mut heap, &mut Tally::default(), &mut output) {
+        Verdict::Accepted { .. } => Ok(output),
+        stop => Err(stop),
+    }
+}
+
 fn replay_bytes(
     judge: &Judge,
     log: &[u8],
@@ -40,15 +50,13 @@ fn replay_bytes(
     tally: &mut Tally,
 ) -> Result<Vec<u8>, Verdict> {
     let mut replay = log.to_vec();
-    let mut cursor = Cursor::new(log);
-    let mut start = 0;
-    while let Some(field) = cursor.next_field(tally.fields)? {
+    each_field(log, |field, place| {
         if field.tag == MALLOC && judge.fault != Some(Fault::ReplayCopies) {
-            overwrite(&replayed_malloc(&field, heap, tally), &mut replay[start..]);
+            let copy = replayed_malloc(field, heap, tally);
+            overwrite(&copy, &mut replay[place.offset..]);
         }
-        judge.step(&field, heap, tally)?;
-        start = log.len() - cursor.left();
-    }
+        judge.step(field, heap, tally)
+    })?;
     Ok(replay)
 }
 

@@ -29,9 +29,10 @@ static const uint8_t case_l[] = {1, 8, 0, 0, 0, 5, 0, 7, 0, 0, 0, 2, 2, 0, 0, 0,
 /* The line that document 01 has the program print. */
 static void print_verdict(const char *name, uint32_t kind) {
     static const char *const words[] = {"accepted", "race", "refused", "no room"};
-    static const int counts[] = {3, 3, 2, 0};
+    static const int counts[] = {3, 4, 3, 0};
+    int whole = kind == THAWHAZEL_REFUSED && (answer[0] <= THAWHAZEL_BUFFER_TOO_SHORT || answer[0] == THAWHAZEL_OUTPUT_TOO_SHORT);
     printf("%s: %s", name, words[kind]);
-    for (int i = 0; i < counts[kind]; i++) printf(" %u", answer[i]);
+    for (int i = 0; i < (whole ? 2 : counts[kind]); i++) printf(" %u", answer[i]);
     printf("\n");
 }
 
@@ -61,17 +62,18 @@ static void lend_too_little(void) {
                   thawhazel_judge(case_b, sizeof case_b, pointers, THAWHAZEL_POINTERS - 1, selectors, THAWHAZEL_SELECTORS, variables,
                                   THAWHAZEL_VARIABLES, numbers, THAWHAZEL_CELLS, status, THAWHAZEL_CELLS, tally, THAWHAZEL_TALLY,
                                   answer, THAWHAZEL_ANSWER));
-    print_verdict("2 answers", thawhazel_judge(case_b, sizeof case_b, HEAP, tally, THAWHAZEL_TALLY, answer, 2));
+    print_verdict("3 answers", thawhazel_judge(case_b, sizeof case_b, HEAP, tally, THAWHAZEL_TALLY, answer, 3));
     printf("x0 is %u, tally %u %u %u\n", variables[0], tally[0], tally[1], tally[2]);
 }
 
 static void read_and_write(void) {
-    uint32_t field[THAWHAZEL_FIELD], bytes[1];
+    uint32_t field[THAWHAZEL_READ], bytes[1];
     uint8_t out[THAWHAZEL_FIELD_BYTES];
-    uint32_t read = thawhazel_read_field(case_b, sizeof case_b, field, THAWHAZEL_FIELD);
+    uint32_t read = thawhazel_read_field(case_b, sizeof case_b, 0, field, THAWHAZEL_READ);
     printf("read: %u, field", read);
-    for (int i = 0; i < THAWHAZEL_FIELD; i++) printf(" %u", field[i]);
-    printf("\nread of 2 bytes: %u\n", thawhazel_read_field(case_b, 2, field, THAWHAZEL_FIELD));
+    for (int i = 0; i < THAWHAZEL_READ; i++) printf(" %u", field[i]);
+    printf("\nread of 2 bytes at 11: %u", thawhazel_read_field(case_b + 11, 2, 11, field, THAWHAZEL_READ));
+    printf(", offset %u\n", field[THAWHAZEL_FIELD]);
     uint32_t written = thawhazel_write_field(field, THAWHAZEL_FIELD, out, sizeof out, bytes, 1);
     printf("written: %u, %u bytes\n", written, bytes[0]);
     print_bytes("bytes", out, bytes[0]);

@@ -2,6 +2,7 @@
 
 use super::guided::{clean_log, guided_log};
 use super::Random;
+use crate::field::HEADER;
 use crate::judge::Cursor;
 
 /// Damage to a very long log mostly falls where no reader comes.
@@ -75,13 +76,14 @@ fn change_tag(random: &mut Random, field: &mut [u8]) {
 fn split_fields(log: &[u8]) -> Vec<Vec<u8>> {
     let mut cursor = Cursor::new(log);
     let mut fields = Vec::new();
-    let mut start = 0;
-    while let Ok(Some(field)) = cursor.next_field(0) {
-        fields.push(log[start..start + field.size()].to_vec());
-        start += field.size();
+    let mut rest = log;
+    while let Ok(Some((field, _))) = cursor.next_field() {
+        let (bytes, after) = rest.split_at(field.size());
+        fields.push(bytes.to_vec());
+        rest = after;
     }
-    if log.len() > start + 3 {
-        fields.push(log[start..].to_vec());
+    if rest.len() > HEADER {
+        fields.push(rest.to_vec());
     }
     fields
 }
