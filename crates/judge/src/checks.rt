@@ -123,16 +123,10 @@ fn as_wanted(wanted: bool, found: bool) -> bool
     !found
 }
 
-// Where either side is unset, both = and ≠ pass.
+// Unset is nil: two that are unset are the same, and one that is unset is no cell.
 fn same_as_wanted(wanted: bool, v: u16, w: u16) -> bool
     ensures { λ r. ⌜ r ≡ sameAsWanted wanted v w ⌝ }
 {
-    if is_unset(v) {
-        return true;
-    }
-    if is_unset(w) {
-        return true;
-    }
     as_wanted(wanted, cell_of(v) == cell_of(w))
 }
 

@@ -128,6 +128,18 @@ treiberABA =
     ∷ casDone 0 0 16 17
     ∷ []
 
+-- ---- order 4: a field that says that p0 and p1 are the same, and one that says that they are not, where both are unset, and where
+-- one side is
+abbrev pub unsetCases : Field → Field → List Case
+unsetCases same apart =
+    case (same ∷ []) accepted (1 ∷ 0 ∷ 0 ∷ []) [] []
+    ∷ case (apart ∷ []) refused (14 ∷ 0 ∷ 0 ∷ []) [] []
+    ∷ case (M 1 5 0 ∷ same ∷ []) refused (14 ∷ 1 ∷ 11 ∷ []) [] []
+    ∷ case (M 1 5 0 ∷ apart ∷ []) accepted (2 ∷ 1 ∷ 1 ∷ []) [] []
+    ∷ case (M 0 5 0 ∷ same ∷ []) refused (14 ∷ 1 ∷ 11 ∷ []) [] []
+    ∷ case (M 0 5 0 ∷ apart ∷ []) accepted (2 ∷ 1 ∷ 1 ∷ []) [] []
+    ∷ []
+
 abbrev pub cases : List Case
 cases =
     -- A: empty
@@ -149,7 +161,7 @@ cases =
     -- I: free p0
     ∷ case (freeOf 0 ∷ []) accepted (1 ∷ 0 ∷ 0 ∷ []) [] []
     -- J: assert p0 ≠ p0
-    ∷ case (fieldWith 10 (0 ∷ 0 ∷ 0 ∷ []) ∷ []) accepted (1 ∷ 0 ∷ 0 ∷ []) [] []
+    ∷ case (fieldWith 10 (0 ∷ 0 ∷ 0 ∷ []) ∷ []) refused (14 ∷ 0 ∷ 0 ∷ []) [] []
     -- K: M(0,5,0); assert p0 ≠ p0
     ∷ case (M 0 5 0 ∷ fieldWith 10 (0 ∷ 0 ∷ 0 ∷ []) ∷ []) refused (14 ∷ 1 ∷ 11 ∷ []) [] []
     -- L: M(0,5,7); free p0; M(0,5,9); x0 := p0.data
@@ -174,7 +186,8 @@ cases =
     ∷ case (M 0 5 7 ∷ copyOf 0 1 0 ∷ freeOf 0 ∷ M 2 6 0 ∷ copyOf 0 3 2 ∷ casDone 0 2 3 1 ∷ []) accepted (6 ∷ 2 ∷ 1 ∷ []) (wordIs (PointerWord 2) 2053 ∷ []) (wordIs (PointerWord 2) 2048 ∷ [])
     -- a Treiber stack's ABA
     ∷ case treiberABA race (13 ∷ 0 ∷ 16 ∷ 98 ∷ []) [] []
-    ∷ []
+    -- unset handles in assertions, and in cas fields
+    ∷ (unsetCases (fieldWith 9 (0 ∷ 0 ∷ 1 ∷ [])) (fieldWith 10 (0 ∷ 0 ∷ 1 ∷ [])) ++ unsetCases (casDone 0 0 1 1) (casFailed 0 0 1 1))
 
 pub cases-hold : T (right cases)
 unfolding rowOf widthsOf lengthOf fieldBytes isValid cellOf isUnset invalidated afterFree fresh write store commandOf sameAsWanted checkBy give free countField startingData

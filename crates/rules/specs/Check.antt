@@ -1,7 +1,7 @@
 -- The checks of one field against the heap, in their order: 11, race, 12, 13, 14.
 -- What is called a race is given to them as tests, so that another reading calls other things so. Assumes nothing.
 use Prim.Native.Nat.{ℕ}
-use mathlib.Core.Bool.{Bool, true, false, not, _||_}
+use mathlib.Core.Bool.{Bool, true, false, not}
 use mathlib.Core.List.{List, [], _∷_, _++_}
 use lib.Dec.{eqb, ltb}
 use Rattle.fields.specs.declared.RecordedCell.{RecordedCell}
@@ -42,9 +42,9 @@ abbrev pub asWanted : Bool → Bool → Bool
 asWanted true found = found
 asWanted false found = not found
 
--- where either side is unset, both = and ≠ pass; otherwise cells are compared
+-- cells are compared; two that are unset are equal, and one that is unset differs from every cell
 unfoldable pub sameAsWanted : Bool → ℕ → ℕ → Bool
-sameAsWanted wanted v w = isUnset v || isUnset w || asWanted wanted (eqb (cellOf v) (cellOf w))
+sameAsWanted wanted v w = asWanted wanted (eqb (cellOf v) (cellOf w))
 
 abbrev pub holdsIn : List ℕ → List ℕ → Guard → Bool
 holdsIn pointers variables Always = true

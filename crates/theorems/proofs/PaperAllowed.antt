@@ -22,7 +22,7 @@ use Rattle.rules.specs.Acts.{gives, through, touched}
 use Rattle.rules.specs.Check.{check, each, holds, points, roomFor, vacant, valid}
 use Rattle.rules.proofs.Checks.{Clear, clear-each, passBy}
 use Rattle.theorems.specs.Paper.{Asgn-load, Asgn-read, Asgn-store, Asgn-write, Asrt, Assert, Com, Computation, Cond, Heap, InUse, Malloc1, Malloc2, Rule, Update, cell, dataOf, defined, freedIn, heapOf, passes, pointerVar, then, validIn}
-use Rattle.theorems.specs.Beside.{RaceIn, Returns, Says, Shows, Steps, Takes, assertion, both, change, says-constant, says-copy, says-free, says-load, says-malloc, says-read, says-store, says-sum, says-write}
+use Rattle.theorems.specs.Beside.{NoSeg, RaceIn, Returns, Says, Shows, Steps, Takes, assertion, both, change, says-constant, says-copy, says-free, says-load, says-malloc, says-read, says-store, says-sum, says-write}
 use Rattle.theorems.proofs.Basics.{split}
 use Rattle.theorems.proofs.PaperReading.{allocated-live, no-address, same-address}
 use Rattle.theorems.proofs.PaperRaces.{SomeInvalid, check-parts, others, pointer-race-is-race, races, some-invalid-race}
@@ -71,19 +71,19 @@ module _ (τ : Computation) (s : State) (H : Shows s τ) where
   change-steady m c up (says-sum {x} {y} {z}) rule named = (tt, tt)
 
 module _ (thread : ℕ) (τ : Computation) (s : State) (H : Shows s τ) where
-  steady : (a : Act) (cs : List Com) (σ : Computation) → Takes a cs → Steps thread (gives (a .change)) τ cs σ → Steady a s
-  steady a cs σ (change {m} {c} w) st = let q = change-steady τ s H m c (st .0) w (st .1) (st .2) in record { pointing = q .0; unlive = q .1; holding = refl }
-  steady a cs σ (assertion {g} {k} w) st = record { pointing = tt; unlive = tt; holding = sym (guard-passes τ s H g k w) ∙ asserted (st .1) }
-  steady a cs σ (both {g} {k} {m} {c} w u none) st =
+  steady : (a : Act) (cs : List Com) (σ : Computation) → Takes a cs → NoSeg s (a .guard) → Steps thread (gives (a .change)) τ cs σ → Steady a s
+  steady a cs σ (change {m} {c} w) set st = let q = change-steady τ s H m c (st .0) w (st .1) (st .2) in record { pointing = q .0; unlive = q .1; holding = refl }
+  steady a cs σ (assertion {g} {k} w) set st = record { pointing = tt; unlive = tt; holding = sym (guard-passes τ s H g k w set) ∙ asserted (st .1) }
+  steady a cs σ (both {g} {k} {m} {c} w u none) set st =
       let ρ : Computation = then τ (record { thread = thread; command = Assert k; up = st .0 }) in
       let later = st .3 in
       let q = change-steady ρ s (shows-assert τ s H thread k (st .0) (st .1)) m c (later .0) u (later .1) (later .2) in
-      record { pointing = q .0; unlive = q .1; holding = sym (guard-passes τ s H g k w) ∙ asserted (st .1) }
+      record { pointing = q .0; unlive = q .1; holding = sym (guard-passes τ s H g k w set) ∙ asserted (st .1) }
 
-  pub allowed-passes : (a : Act) (cs : List Com) (σ : Computation) → Takes a cs → Steps thread (gives (a .change)) τ cs σ
+  pub allowed-passes : (a : Act) (cs : List Com) (σ : Computation) → Takes a cs → NoSeg s (a .guard) → Steps thread (gives (a .change)) τ cs σ
       → (RaceIn (validIn τ) cs → ⊥) → Clear (roomFor s) (gives (a .change)) → check a s ≡ Go
-  allowed-passes a cs σ takes steps no-race room =
-      let st = steady a cs σ takes steps in
+  allowed-passes a cs σ takes set steps no-race room =
+      let st = steady a cs σ takes set steps in
       passBy (each (valid s) Race (touched a)) a s (record {
         room = room;
         raceless = clear-each (valid s) Race (touched a) (all-valid s (touched a) (λ i. no-race (some-invalid-race τ s H a cs takes i)));
@@ -102,11 +102,11 @@ module _ (thread : ℕ) (τ : Computation) (s : State) (H : Shows s τ) where
           (λ t. (t, room done l (rw t at q)))
           (λ t. let same : Refuse TooManyMallocs ≡ Refuse r = rw t at q in absurd (n (cc)))
 
-  pub refused-no-step : (a : Act) (cs : List Com) (r : Refusal) → Takes a cs → check a s ≡ Refuse r → (r ≡ TooManyMallocs → ⊥)
+  pub refused-no-step : (a : Act) (cs : List Com) (r : Refusal) → Takes a cs → NoSeg s (a .guard) → check a s ≡ Refuse r → (r ≡ TooManyMallocs → ⊥)
       → (σ : Computation) → Steps thread (gives (a .change)) τ cs σ → ⊥
-  refused-no-step a cs r takes e n σ steps =
+  refused-no-step a cs r takes set e n σ steps =
       let no-race : RaceIn (validIn τ) cs → ⊥ = λ race. refused-not-raced (pointer-race-is-race τ s H a cs takes race) in
-      let passes : Refuse r ≡ Go = sym e ∙ allowed-passes a cs σ takes steps no-race (room-left a r n e) in
+      let passes : Refuse r ≡ Go = sym e ∙ allowed-passes a cs σ takes set steps no-race (room-left a r n e) in
       let z : _≡_ {A = ℕ} 0 1 = cc in
       omega arith
     where

@@ -40,7 +40,7 @@ use Rattle.theorems.proofs.Tables.{readable-named}
 use Rattle.theorems.proofs.Logs.{taken}
 use Rattle.theorems.proofs.PaperReading.{Traced, traced-free, traced-give, traced-write}
 use Rattle.theorems.proofs.PaperRaces.{passed-no-race}
-use Rattle.theorems.proofs.PaperSteps.{Returning, guard-passes, shows-assert, step-compute, step-copy, step-free, step-load, step-malloc, step-read, step-store, step-write}
+use Rattle.theorems.proofs.PaperSteps.{Returning, guard-passed, shows-assert, step-compute, step-copy, step-free, step-load, step-malloc, step-read, step-store, step-write}
 use Rattle.theorems.proofs.PaperCommands.{readable-takes}
 
 -- ---- no selector of a never-used cell is written, and no word holds a never-used cell
@@ -150,11 +150,11 @@ module _ (s : State) (thread : ℕ) where
       → Onward thread (gives (a .change)) τ cs (apply (a .change) s)
   takes-on τ S a cs (change {m} {c} w) n g no-race = change-on τ S a c w n g (λ r. no-race (inl r))
   takes-on τ S a cs (assertion {g = q} {k} w) n g no-race =
-      let e : passes true (heapOf τ) k ≡ true = guard-passes τ s (S .shows) q k w ∙ g .holding in
+      let e : passes true (heapOf τ) k ≡ true = guard-passed τ s (S .shows) q k w (g .holding) in
       let R = assert-on τ S k e (λ r. no-race (inl r)) in
       record { to = then τ (record { thread = thread; command = Assert k; up = [] }); steps = ([], Asrt e, tt, refl); managed = R .managed; raceFree = R .raceFree; shows = R .shows }
   takes-on τ S a cs (both {g = q} {k} {m} {c} w u none) n g no-race =
-      let e : passes true (heapOf τ) k ≡ true = guard-passes τ s (S .shows) q k w ∙ g .holding in
+      let e : passes true (heapOf τ) k ≡ true = guard-passed τ s (S .shows) q k w (g .holding) in
       let ρ : Computation = then τ (record { thread = thread; command = Assert k; up = [] }) in
       let o = change-on ρ (assert-on τ S k e (λ r. no-race (inl r))) a c u n g (λ r. no-race (inr (inl r))) in
       record { to = o .to; steps = ([], Asrt e, rw none tt, o .steps); managed = o .managed; raceFree = o .raceFree; shows = o .shows }

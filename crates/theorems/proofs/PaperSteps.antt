@@ -23,7 +23,7 @@ use Rattle.rules.specs.Check.{asWanted, holds, sameAsWanted}
 use Rattle.rules.specs.Effect.{apply, free, give}
 use Rattle.rules.specs.Matching.{Live}
 use Rattle.theorems.specs.Paper.{Adr, Asgn-compute, Asgn-copy, Asgn-load, Asgn-read, Asgn-store, Asgn-write, Asrt, Assert, Com, Computation, Compute, Cond, Copy, DExp, Free, Free-rule, Heap, Load, Malloc, Malloc1, Malloc2, PExp, ReadData, Rule, Selector, Store, Update, Values, WriteData, cell, dataOf, dataTo, dataVar, defined, freedAfter, freedIn, heapOf, index, isSeg, nextOf, next₀, next₁, passes, pointerTo, pointerVar, received, sameAdr, sameDExp, sameData, samePExp, samePointers, seg, then, validAfter, validIn, validNext, wantedIs}
-use Rattle.theorems.specs.Beside.{Asserts, Returns, Shows, adrOf, dvalOf, isAllocated, isThere, placeOf, pvalOf, says-apart, says-equal, says-same, says-unequal, validOf}
+use Rattle.theorems.specs.Beside.{Asserts, NoSeg, Returns, Shows, adrOf, dvalOf, isAllocated, isThere, placeOf, pvalOf, says-apart, says-equal, says-same, says-unequal, validOf}
 use Rattle.theorems.proofs.Basics.{eqb-self, eqb-turn, split}
 use Rattle.theorems.proofs.States.{Within}
 use Rattle.theorems.proofs.Passed.{Set}
@@ -48,28 +48,41 @@ wanted-same : (wanted found : Bool) → wantedIs wanted found ≡ asWanted wante
 wanted-same true found = refl
 wanted-same false found = refl
 
--- two set words compare as their addresses do; where one is unset, every assertion passes
-compared-same : (wanted : Bool) (v w : ℕ)
-    → isSeg (defined (adrOf v)) || isSeg (defined (adrOf w)) || wantedIs wanted (sameAdr (defined (adrOf v)) (defined (adrOf w))) ≡ sameAsWanted wanted v w
+-- two set words compare as their addresses do; where one is unset, the paper passes every assertion
+abbrev comparison : Bool → ℕ → ℕ → Bool
+comparison wanted v w = isSeg (defined (adrOf v)) || isSeg (defined (adrOf w)) || wantedIs wanted (sameAdr (defined (adrOf v)) (defined (adrOf w)))
+
+compared-same : (wanted : Bool) (v w : ℕ) → isUnset v ≡ false → isUnset w ≡ false → comparison wanted v w ≡ sameAsWanted wanted v w
 unfolding sameAsWanted
-compared-same wanted v w = split (isUnset v)
+compared-same wanted v w e f = rw (e, f, wanted-same wanted (eqb (cellOf w) (cellOf v)), eqb-turn (cellOf w) (cellOf v)) refl
+
+compared-passed : (wanted : Bool) (v w : ℕ) → sameAsWanted wanted v w ≡ true → comparison wanted v w ≡ true
+compared-passed wanted v w h = split (isUnset v)
     (λ e. rw e refl)
     (λ e. split (isUnset w)
     (λ f. rw (e, f) refl)
-    (λ f. rw (e, f, wanted-same wanted (eqb (cellOf w) (cellOf v)), eqb-turn (cellOf w) (cellOf v)) refl))
+    (λ f. compared-same wanted v w e f ∙ h))
 
 module _ (τ : Computation) (s : State) (H : Shows s τ) where
-  same-pointers-pass : (wanted : Bool) (p q : ℕ) → passes wanted (heapOf τ) (samePointers p q) ≡ sameAsWanted wanted (pointer s p) (pointer s q)
-  same-pointers-pass wanted p q = rw (H .pointers (pointerVar p), H .pointers (pointerVar q)) (compared-same wanted (pointer s p) (pointer s q))
+  pointers-compared : (wanted : Bool) (p q : ℕ) → passes wanted (heapOf τ) (samePointers p q) ≡ comparison wanted (pointer s p) (pointer s q)
+  pointers-compared wanted p q = rw (H .pointers (pointerVar p), H .pointers (pointerVar q)) refl
 
   same-data-pass : (wanted : Bool) (x y : ℕ) → passes wanted (heapOf τ) (sameData x y) ≡ asWanted wanted (eqb (numberAt (s .variables) x) (numberAt (s .variables) y))
   same-data-pass wanted x y = rw (H .numbers (dataVar x), H .numbers (dataVar y)) (wanted-same wanted (eqb (numberAt (s .variables) x) (numberAt (s .variables) y)))
 
-  pub guard-passes : (g : Guard) (k : Cond) → Asserts g k → passes true (heapOf τ) k ≡ holds s g
-  guard-passes g k (says-same {p} {q}) = same-pointers-pass true p q
-  guard-passes g k (says-apart {p} {q}) = same-pointers-pass false p q
-  guard-passes g k (says-equal {x} {y}) = same-data-pass true x y
-  guard-passes g k (says-unequal {x} {y}) = same-data-pass false x y
+  -- an assertion that holds passes in the paper
+  pub guard-passed : (g : Guard) (k : Cond) → Asserts g k → holds s g ≡ true → passes true (heapOf τ) k ≡ true
+  guard-passed g k (says-same {p} {q}) h = pointers-compared true p q ∙ compared-passed true (pointer s p) (pointer s q) h
+  guard-passed g k (says-apart {p} {q}) h = pointers-compared false p q ∙ compared-passed false (pointer s p) (pointer s q) h
+  guard-passed g k (says-equal {x} {y}) h = same-data-pass true x y ∙ h
+  guard-passed g k (says-unequal {x} {y}) h = same-data-pass false x y ∙ h
+
+  -- and where it compares no unset pointer, it holds if and only if it passes
+  pub guard-passes : (g : Guard) (k : Cond) → Asserts g k → NoSeg s g → passes true (heapOf τ) k ≡ holds s g
+  guard-passes g k (says-same {p} {q}) n = pointers-compared true p q ∙ compared-same true (pointer s p) (pointer s q) (n .0) (n .1)
+  guard-passes g k (says-apart {p} {q}) n = pointers-compared false p q ∙ compared-same false (pointer s p) (pointer s q) (n .0) (n .1)
+  guard-passes g k (says-equal {x} {y}) n = same-data-pass true x y
+  guard-passes g k (says-unequal {x} {y}) n = same-data-pass false x y
 
   -- an assertion changes nothing
   pub shows-assert : (thread : ℕ) (k : Cond) (up : List Update) → Rule (heapOf τ) (freedIn τ) (Assert k) up → Shows s (then τ (record { thread = thread; command = Assert k; up = up }))

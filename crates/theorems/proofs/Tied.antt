@@ -137,7 +137,7 @@ module _ {R S : State} {m : ℕ → ℕ} (P : Pair R S m) where
 
   same-sim : (t : Bool) (p q : ℕ) → isValid (pointer R p) ≡ true → isValid (pointer R q) ≡ true → sameAsWanted t (pointer S p) (pointer S q) ≡ sameAsWanted t (pointer R p) (pointer R q)
   unfolding sameAsWanted
-  same-sim t p q h k = rw (pointer-unset p h, pointer-unset q k, cells-sim p q h k) refl
+  same-sim t p q h k = rw (cells-sim p q h k) refl
 
   pub holds-sim : (g : Guard) → Clear (valid R) (compared g) → holds S g ≡ holds R g
   holds-sim Always c = refl

@@ -50,7 +50,7 @@ use Rattle.theorems.proofs.Replayed.{All}
 -- ---- words and lists with their marks taken away
 same-cells : (wanted : Bool) (v w : ℕ) → sameAsWanted wanted (cellOf v) (cellOf w) ≡ sameAsWanted wanted v w
 unfolding sameAsWanted
-same-cells wanted v w = rw (unset-cell v, unset-cell w, cell-cell v, cell-cell w) refl
+same-cells wanted v w = rw (cell-cell v, cell-cell w) refl
 
 cells-afterFree : (c : ℕ) (l : List ℕ) → map cellOf (map (afterFree c) l) ≡ map cellOf l
 cells-afterFree c [] = refl

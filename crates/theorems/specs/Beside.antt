@@ -14,7 +14,7 @@ use Rattle.rules.specs.declared.PExp.the-variants.{PointerVariable, SelectorOf}
 use Rattle.rules.specs.declared.DExp.the-variants.{DataVariable, DataOf}
 use Rattle.rules.specs.declared.Value.the-variants.{Held, Constant, Sum}
 use Rattle.rules.specs.declared.Guard.{Guard}
-use Rattle.rules.specs.declared.Guard.the-variants.{Same, Equal}
+use Rattle.rules.specs.declared.Guard.the-variants.{Always, Same, Equal}
 use Rattle.rules.specs.declared.Change.{Change}
 use Rattle.rules.specs.declared.Change.the-variants.{Allocate, Release, Move, Put}
 use Rattle.rules.specs.declared.Act.{Act}
@@ -23,7 +23,7 @@ use Rattle.rules.specs.declared.Answer.the-variants.{Go, Race, Refuse}
 use Rattle.rules.specs.declared.Place.{Place}
 use Rattle.rules.specs.declared.Place.the-variants.{PointerWord, SelectorWord}
 use Rattle.rules.specs.Words.{isValid, cellOf, isUnset}
-use Rattle.rules.specs.State.{State, neverUsed, freed, statusOf, numberAt, word}
+use Rattle.rules.specs.State.{State, neverUsed, freed, statusOf, numberAt, word, pointer}
 use Rattle.rules.specs.Acts.{gives}
 use Rattle.rules.specs.Commands.{does, asserts, actOf}
 use Rattle.rules.specs.Check.{check}
@@ -37,6 +37,8 @@ use Rattle.theorems.specs.Paper.{Selector, index, Cond, samePointers, sa
 -- Malloc: which rule applies, the address and a new cell's data are choices in the paper; the log names the address and the data.
 -- Refusals: the paper has no computation that goes through seg, gives out an address in use that is not freed, or fails an
 -- assertion; a log is refused there, with 12, 13 and 14.
+-- Assertions on an unset pointer: the paper passes = and ≠ wherever a side is seg. Order 4 takes unset for nil: two unset handles are
+-- equal, and one that is unset differs from every cell. So what holds passes in the paper, and the two agree where no side is unset.
 -- Races: Definition 2 speaks of computations, so of commands that have a step; document 01 looks for a race first, so that a race is
 -- also a command with no step whose pointer is not valid, as going through an unset pointer that lost its validity.
 
@@ -84,6 +86,12 @@ pub data Asserts : Guard → Cond → Type 0 where
   says-apart : {p q : ℕ} → Asserts (Same false p q) (negated (samePointers p q))
   says-equal : {x y : ℕ} → Asserts (Equal true x y) (sameData x y)
   says-unequal : {x y : ℕ} → Asserts (Equal false x y) (negated (sameData x y))
+
+-- the pointers that a guard compares are set
+abbrev pub NoSeg : State → Guard → Type 0
+NoSeg s Always = Unit {0}
+NoSeg s (Same wanted p q) = (isUnset (pointer s p) ≡ false) × (isUnset (pointer s q) ≡ false)
+NoSeg s (Equal wanted x y) = Unit {0}
 
 -- the command that a change is: x := constant and x := y + z are operations op, which the paper leaves open
 abbrev pub wrappingSum : List ℕ → ℕ
