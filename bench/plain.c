@@ -138,7 +138,8 @@ static uint32_t compare_pointers(Run *run, const uint8_t *v, int wanted) {
     uint16_t p = run->pointers[v[1]], q = run->pointers[v[2]];
     if (p >= INVALID) return race(run, v[0], v[1]);
     if (q >= INVALID) return race(run, v[0], v[2]);
-    return p != UNSET && q != UNSET && (p == q) != wanted ? refuse(run, 14) : GO_ON;
+    /* unset is equal to unset, and differs from every cell */
+    return (p == q) != wanted ? refuse(run, 14) : GO_ON;
 }
 
 /* A compare-and-swap that was done: assert p = q, then p := r. */

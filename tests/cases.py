@@ -40,6 +40,14 @@ def copy(p, q, thread=0):
     return field(3, thread, p, q)
 
 
+def equal(p, q):
+    return field(9, 0, p, q)
+
+
+def differ(p, q):
+    return field(10, 0, p, q)
+
+
 def cas_done(p, q, r, thread=0):
     return field(14, thread, p, q, r)
 
@@ -88,12 +96,12 @@ CASES = [
     ("C", C_BEGINS + C_ENDS, "race 3 1 24 22"),
     ("D", C_BEGINS + malloc(1, 5, 7) + C_ENDS, "race 4 1 24 33"),
     ("E", E, "accepted 6 3 2"),
-    ("F", E + field(9, 0, 16, 1), "race 6 0 16 52"),
+    ("F", E + equal(16, 1), "race 6 0 16 52"),
     ("G", malloc(0, 5, 0) * 2, "refused 13 1 11"),
     ("H", field(6, 0, 0, 0), "refused 12 0 0"),
     ("I", free(0), "accepted 1 0 0"),
-    ("J", field(10, 0, 0, 0), "accepted 1 0 0"),
-    ("K", malloc(0, 5, 0) + field(10, 0, 0, 0), "refused 14 1 11"),
+    ("J", differ(0, 0), "refused 14 0 0"),
+    ("K", malloc(0, 5, 0) + differ(0, 0), "refused 14 1 11"),
     ("L", malloc(0, 5, 7) + free(0) + malloc(0, 5, 9) + field(6, 0, 0, 0), "accepted 4 2 1"),
     ("N", (malloc(0, 5, 0) + free(0)) * 1024 + malloc(0, 5, 0), "refused 11 2048 16384"),
     ("O", malloc(0, 5, 0) + free(0) + malloc(0, 5, 0) + field(4, 0, 16, 0, 0) + free(16), "race 4 0 16 34"),
@@ -120,6 +128,18 @@ CASES = [
     ("cas-treiber", POP_BEGUN + SLOW.end_pop(), "accepted 15 2 1"),
     ("cas-treiber-aba", POP_BEGUN + MEANWHILE + SLOW.end_pop(), "race 27 0 16 192"),
     ("tag16", field(16, 0, 0, 0, 0), "refused 5 0 0"),
+    ("unset-equal-both", equal(0, 1), "accepted 1 0 0"),
+    ("unset-equal-left", malloc(1, 0, 0) + equal(0, 1), "refused 14 1 11"),
+    ("unset-equal-right", malloc(0, 0, 0) + equal(0, 1), "refused 14 1 11"),
+    ("unset-differ-both", differ(0, 1), "refused 14 0 0"),
+    ("unset-differ-left", malloc(1, 0, 0) + differ(0, 1), "accepted 2 1 1"),
+    ("unset-differ-right", malloc(0, 0, 0) + differ(0, 1), "accepted 2 1 1"),
+    ("unset-cas-done-both", malloc(2, 0, 0) + cas_done(0, 1, 2), "accepted 2 1 1"),
+    ("unset-cas-done-left", malloc(1, 0, 0) + cas_done(0, 1, 2), "refused 14 1 11"),
+    ("unset-cas-done-right", malloc(0, 0, 0) + cas_done(0, 1, 2), "refused 14 1 11"),
+    ("unset-cas-failed-both", malloc(2, 0, 0) + cas_failed(0, 1, 2), "refused 14 1 11"),
+    ("unset-cas-failed-left", malloc(1, 0, 0) + cas_failed(0, 1, 2), "accepted 2 1 1"),
+    ("unset-cas-failed-right", malloc(0, 0, 0) + cas_failed(0, 1, 2), "accepted 2 1 1"),
 ]
 
 # the 28 bytes that document 01 prints for case C

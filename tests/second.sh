@@ -14,7 +14,7 @@ fi
 cargo test --quiet --offline --manifest-path second/Cargo.toml
 cargo build --quiet --release --offline --manifest-path second/Cargo.toml
 second=second/target/release/second
-$second vectors second/vectors/order-03.tsv
+$second vectors second/vectors/order-04.tsv
 $second check "$seed" 500
 $second compare "$seed" "$count" ./thawhazel batch
 $second shows "$seed" 60 ./thawhazel

@@ -120,7 +120,8 @@ fn case_i() {
 
 #[test]
 fn case_j() {
-    assert_eq!(line(&[Field::of(OTHER_CELL, &[0, 0, 0])]), "accepted 1 0 0");
+    // Order 4 changed it from accepted.
+    assert_eq!(line(&[Field::of(OTHER_CELL, &[0, 0, 0])]), "refused 14 0 0");
 }
 
 #[test]
@@ -353,4 +354,39 @@ fn the_tally_keeps_the_live_count() {
     // A stop leaves the count before its field.
     assert_eq!(live(&[m(0, 5, 0), m(0, 5, 0)]), 1);
     assert_eq!(live(&[m(0, 5, 0), free(0), free(0)]), 0);
+}
+
+/// What is said of p0 and p1 after a malloc into one of them, or into p2.
+fn with_set(p: u32, last: Field) -> (String, Heap) {
+    judged(&bytes(&[m(p, 0, 0), last]))
+}
+
+#[test]
+fn two_unset_pointers_are_equal() {
+    let holding = [Field::of(SAME_CELL, &[0, 0, 1]), cas_done(0, 1, 3)];
+    for field in holding {
+        assert_eq!(line(&[field]), "accepted 1 0 0");
+    }
+    let failing = [Field::of(OTHER_CELL, &[0, 0, 1]), cas_failed(0, 1, 3)];
+    for field in failing {
+        assert_eq!(line(&[field]), "refused 14 0 0");
+    }
+    let (line, heap) = with_set(2, cas_done(0, 1, 2));
+    assert_eq!(line, "accepted 2 1 1");
+    assert_eq!(heap.pointers[..3], [0, UNSET, 0]);
+}
+
+#[test]
+fn an_unset_pointer_differs_from_every_cell() {
+    for set in [0, 1] {
+        let line = |field| with_set(set, field).0;
+        let failing = [Field::of(SAME_CELL, &[0, 0, 1]), cas_done(0, 1, 3)];
+        for field in failing {
+            assert_eq!(line(field), "refused 14 1 11");
+        }
+        let holding = [Field::of(OTHER_CELL, &[0, 0, 1]), cas_failed(0, 1, 3)];
+        for field in holding {
+            assert_eq!(line(field), "accepted 2 1 1");
+        }
+    }
 }

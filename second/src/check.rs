@@ -445,7 +445,14 @@ mod tests {
     #[test]
     fn faults_that_break_a_property_are_found() {
         use crate::fault::Fault::*;
-        for fault in [LiveNow, ReplayCopies, UncountedFree, UncountedReuse] {
+        let breaking = [
+            LiveNow,
+            ReplayCopies,
+            UncountedFree,
+            UncountedReuse,
+            UnsetPasses,
+        ];
+        for fault in breaking {
             let faulty = Judge { fault: Some(fault) };
             assert!(check(&faulty, 2, 200).is_err(), "{fault:?}");
         }

@@ -1,6 +1,6 @@
 //! Known faults, planted on request so that a comparison can be seen to fail.
-//! They are document 01's plausible wrong turns, the replay that copies, and
-//! the wrong counts of live cells.
+//! They are document 01's plausible wrong turns, the replay that copies, the
+//! wrong counts of live cells, and the former rule for unset pointers.
 
 #[derive(Clone, Copy, PartialEq, Eq, Debug)]
 pub enum Fault {
@@ -18,9 +18,11 @@ pub enum Fault {
     UncountedFree,
     /// A malloc of a freed cell does not count it among the live ones.
     UncountedReuse,
+    /// An assertion on an unset pointer always passes.
+    UnsetPasses,
 }
 
-pub const FAULTS: [(&str, Fault); 7] = [
+pub const FAULTS: [(&str, Fault); 8] = [
     ("live_now", Fault::LiveNow),
     ("cleared_selectors", Fault::ClearedSelectors),
     ("unset_selectors", Fault::UnsetSelectors),
@@ -28,6 +30,7 @@ pub const FAULTS: [(&str, Fault); 7] = [
     ("replay_copies", Fault::ReplayCopies),
     ("uncounted_free", Fault::UncountedFree),
     ("uncounted_reuse", Fault::UncountedReuse),
+    ("unset_passes", Fault::UnsetPasses),
 ];
 
 pub fn fault_named(name: &str) -> Option<Fault> {

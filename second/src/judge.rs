@@ -233,7 +233,7 @@ impl Judge {
         if field.tag == MALLOC && heap.statuses[field.at(Cell)] == LIVE {
             return Some(Stop::Refused(CELL_IS_LIVE));
         }
-        if !assertion_holds(field, heap) {
+        if !self.assertion_holds(field, heap) {
             return Some(Stop::Refused(ASSERTION_FAILS));
         }
         None
@@ -255,6 +255,25 @@ impl Judge {
             Some(Fault::LiveNow) => cell_of(word).map_or(false, |cell| heap.statuses[cell] != LIVE),
             _ => !is_valid(word),
         }
+    }
+
+    fn assertion_holds(&self, field: &Field, heap: &Heap) -> bool {
+        let cell = |slot: Slot| cell_of(heap.pointers[field.at(slot)]);
+        let number = |slot: Slot| heap.data_variables[field.at(slot)];
+        if let Some(wanted) = asserts_equal(field.tag) {
+            // Order 4: unset is equal to unset, and differs from every cell.
+            return (cell(P) == cell(Q)) == wanted || self.lets_unset_pass(cell(P), cell(Q));
+        }
+        match field.tag {
+            SAME_NUMBER => number(X) == number(Y),
+            OTHER_NUMBER => number(X) != number(Y),
+            _ => true,
+        }
+    }
+
+    /// Fault `unset_passes`: document 01's rule, which order 4 replaced.
+    fn lets_unset_pass(&self, p: Option<usize>, q: Option<usize>) -> bool {
+        self.fault == Some(Fault::UnsetPasses) && (p.is_none() || q.is_none())
     }
 
     fn apply(&self, field: &Field, heap: &mut Heap, tally: &mut Tally) {
@@ -358,19 +377,4 @@ fn racing_copy(field: &Field, heap: &Heap) -> Option<u32> {
         _ => return None,
     };
     (!is_valid(copied)).then_some(field[source])
-}
-
-fn assertion_holds(field: &Field, heap: &Heap) -> bool {
-    let cell = |slot: Slot| cell_of(heap.pointers[field.at(slot)]);
-    let number = |slot: Slot| heap.data_variables[field.at(slot)];
-    if let Some(wanted) = asserts_equal(field.tag) {
-        // Source 004: with an unset side both = and ≠ pass.
-        let unset = cell(P).is_none() || cell(Q).is_none();
-        return unset || (cell(P) == cell(Q)) == wanted;
-    }
-    match field.tag {
-        SAME_NUMBER => number(X) == number(Y),
-        OTHER_NUMBER => number(X) != number(Y),
-        _ => true,
-    }
 }

@@ -39,7 +39,7 @@ const USAGE: &str = "usage: second [--fault NAME] COMMAND
   check SEED COUNT                  check properties on random logs
   vectors FILE                      compare with a file of vectors
 faults: live_now cleared_selectors unset_selectors copy_races replay_copies
-  uncounted_free uncounted_reuse";
+  uncounted_free uncounted_reuse unset_passes";
 
 /// Why the program does not succeed.
 enum Trouble {

@@ -94,10 +94,9 @@ impl PlainHeap {
         let (p, q) = (self.pointers[field.at(P)], self.pointers[field.at(Q)]);
         let x = self.data_variables[field.at(X)];
         let y = self.data_variables[field.at(Y)];
-        let one_unset = p.is_none() || q.is_none();
         match field.tag {
-            SAME_CELL | CAS_DONE => one_unset || p == q,
-            OTHER_CELL | CAS_FAILED => one_unset || p != q,
+            SAME_CELL | CAS_DONE => p == q,
+            OTHER_CELL | CAS_FAILED => p != q,
             SAME_NUMBER => x == y,
             OTHER_NUMBER => x != y,
             _ => true,

@@ -41,7 +41,7 @@ fn compare_vector(judge: &Judge, line: &str) -> Result<(), String> {
 mod tests {
     use super::*;
 
-    const OUTSIDE: &str = include_str!("../vectors/order-03.tsv");
+    const OUTSIDE: &str = include_str!("../vectors/order-04.tsv");
 
     #[test]
     fn outside_vectors_agree() {

@@ -264,12 +264,13 @@ impl<'r> Guide<'r> {
     /// A second side for a pointer assertion that then holds.
     fn partner(&mut self, thread: u32, p: u32, same: bool) -> Option<u32> {
         let cell = cell_of(word(&self.heap, p));
-        let set = |heap: &Heap, name| {
+        let fits = |heap: &Heap, name| {
             let alike = cell_of(word(heap, name)) == cell;
-            is_solid(heap, name) && (cell.is_none() || alike == same)
+            is_valid(word(heap, name)) && alike == same
         };
-        let set_partner = self.pick(thread, set).filter(|_| self.random.percent(85));
-        set_partner.or_else(|| self.pick(thread, is_blank))
+        let set = |heap: &Heap, name| is_solid(heap, name) && fits(heap, name);
+        let set_partner = self.pick(thread, set).filter(|_| self.random.percent(70));
+        set_partner.or_else(|| self.pick(thread, fits))
     }
 
     fn number_partner(&mut self, thread: u32, x: u32, same: bool) -> Option<u32> {
@@ -436,10 +437,10 @@ impl<'r> Guide<'r> {
     /// cas would copy. Where the style's variables have no such sides, two
     /// cells are given out for it.
     fn unlike_wanted(&mut self, t: u32, same: bool) -> Option<Vec<u32>> {
-        let p = self.solid(t);
+        let unset = self.pick(t, is_blank).filter(|_| self.random.percent(50));
+        let p = unset.or_else(|| self.solid(t));
         let found = p.and_then(|p| Some((p, self.partner(t, p, !same)?)));
-        let set = found.filter(|&(_, q)| is_solid(&self.heap, q));
-        let (p, q) = match set {
+        let (p, q) = match found {
             Some(sides) => sides,
             None => {
                 let (first, second) = self.plant_pair(t)?;
