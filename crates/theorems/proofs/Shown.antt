@@ -35,12 +35,14 @@ use Rattle.rules.specs.declared.Change.{Change}
 use Rattle.rules.specs.declared.Change.the-variants.{Allocate, Move, Put, Release, Stay}
 use Rattle.rules.specs.declared.ReplayCell.{ReplayCell}
 use Rattle.rules.specs.declared.Shown.the-variants.{Part, Refused}
+use Rattle.rules.specs.declared.Verdict.{Verdict}
+use Rattle.rules.specs.declared.Verdict.the-variants as told
 use Rattle.rules.specs.Acts.{gives, touched}
 use Rattle.rules.specs.Check.{check, checkBy, each, roomFor, valid}
 use Rattle.rules.specs.Cases.{bytesC}
 use Rattle.rules.specs.Commands.{actOf, commandOf}
 use Rattle.rules.specs.Effect.{apply, countField, effect, free, give}
-use Rattle.rules.specs.Log.{offsetOf, onward, parse, runBytes}
+use Rattle.rules.specs.Log.{located, offsetOf, onward, parse, runBytes}
 use Rattle.rules.specs.Replay.{bytesOf, copyField, nextCell, replay, replayBytes}
 use Rattle.rules.specs.Run.{Accepted, End, Ending, Outcome, Raced, Refused as RefusedAt, next, run, runTo, unread, whole}
 use Rattle.rules.specs.Showing.{AlikeButGiven, beforeCell, fieldsRead, mallocsOf, partIn, roomy, shownIn, sizeIn}
@@ -355,6 +357,19 @@ stop-shown log n h stop =
     let end = parse-end logFields log in
     let far = rw (fresh-fields, fresh-mallocs) at (reached (parse logFields log .end) (parse logFields log .fields) fresh n end (omega (arith, fresh-mallocs)) stop) in
     shown-by log n true true (le-leb (length log) logBytes h) (lt-ltb n (length (fieldsRead log)) (omega (arith, far)))
+
+-- what a verdict that stops at a field tells of it: its number and its byte offset
+abbrev pub StopsAt : Verdict → ℕ → ℕ → Type 0
+StopsAt (told.Accepted fields mallocs live) n offset = ⊥
+StopsAt (told.Raced field thread variable o) n offset = (field ≡ n) × (o ≡ offset)
+StopsAt (told.Refused r field o) n offset = (field ≡ n) × (o ≡ offset)
+StopsAt (told.Declined r) n offset = ⊥
+
+-- the part at a stop's field number starts at the stop's offset
+pub stop-starts : (log : List ℕ) (ending : Ending) (n offset at size : ℕ) → StopsAt (located log ending) n offset → shownIn log n ≡ Part at size → at ≡ offset
+stop-starts log (Accepted fields mallocs live) n offset at size stop shown = absurd stop
+stop-starts log (Raced field thread variable) n offset at size stop shown = shown-starts log n at size shown ∙ (rw (stop .0) at (stop .1))
+stop-starts log (RefusedAt r field) n offset at size stop shown = shown-starts log n at size shown ∙ (rw (stop .0) at (stop .1))
 
 -- ---- case C: the field that races, and none after it
 pub race-of-C : (shownIn bytesC 3 ≡ Part 22 6) × (partIn bytesC 3 ≡ 6 ∷ 3 ∷ 0 ∷ 1 ∷ 24 ∷ 24 ∷ [])
