@@ -1,6 +1,6 @@
 -- What a free leaves of a word, by comparing the word itself: a valid word that holds a cell is the cell's number.
 -- Assumes nothing.
-use Prim.Native.Nat.{ℕ, _+_, _%_}
+use Prim.Native.Nat.{ℕ, _+_, _%_, _<_, _≤_}
 use borrow.Author.Tests.{eq-eqb, ltb-true, ne-eqb}
 use lib.Dec.{eqb, ltb}
 use mathlib.Core.Bool.{Bool, true, false, cond}
@@ -28,3 +28,12 @@ module _ (cell word : ℕ) where
   pub freed-elsewhere : (word ≡ cell → ⊥) → word ≡ afterFree cell word
   unfolding afterFree invalidated isValid cellOf
   freed-elsewhere other = by-valid-elsewhere (ltb word invalid) refl other
+
+-- ---- what a free adds to the number of its cell
+by-valid-above : (t : Bool) (word : ℕ) → ltb word invalid ≡ t → word < 65536 → (word ≤ cond t (word + invalid) word) × (cond t (word + invalid) word < 65536)
+by-valid-above true word q fits = (omega arith, omega (arith, ltb-true word invalid q))
+by-valid-above false word q fits = (omega arith, fits)
+
+pub invalidated-above : (word : ℕ) → word < 65536 → (word ≤ invalidated word) × (invalidated word < 65536)
+unfolding invalidated isValid
+invalidated-above word fits = by-valid-above (ltb word invalid) word refl fits

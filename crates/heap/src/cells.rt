@@ -16,9 +16,10 @@ use rules::Heap;
 pub fn sweep(words: &mut [u16], cell: u16)
     ensures { λ _. ⌜ now (words .exit) ≡ map (afterFree cell) (now (words .entry)) ⌝ }
 {
+    let mark = invalidate(cell) - cell;
     let mut i: usize = 0;
     while i < words.len() {
-        words[i] = after_free(cell, words[i]);
+        words[i] = after_free(cell, mark, words[i]);
         i += 1;
     }
 }

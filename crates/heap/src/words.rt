@@ -1,5 +1,6 @@
 // One pointer word. Every number is read as a word, so nothing is asked of one.
 ghost use mathlib.Core.Path.{_≡_};
+ghost use Prim.Native.Nat.{_+_};
 ghost use Rattle.rules.specs.Words.{afterFree, cellOf, invalidated, isUnset, isValid};
 use rules::Heap;
 
@@ -31,13 +32,14 @@ pub fn invalidate(word: u16) -> u16
     word
 }
 
-// The word after a cell was freed. A valid word that holds the cell is the cell's number, so that the word itself is compared: in a
-// sweep this is one comparison a word.
-pub fn after_free(cell: u16, word: u16) -> u16
+// The word after a cell was freed, given what that adds to the cell's own number. A valid word that holds the cell is that number, so
+// that the word itself is compared; and the mark is added to it, so that a sweep needs no choice between two words.
+pub fn after_free(cell: u16, mark: u16, word: u16) -> u16
+    requires { ⌜ cell + mark ≡ invalidated cell ⌝ }
     ensures { λ r. ⌜ r ≡ afterFree cell word ⌝ }
 {
     if word == cell {
-        return invalidate(cell);
+        return word + mark;
     }
     word
 }

@@ -1,5 +1,6 @@
 -- `heap::cells::sweep` meets its contract: a map, in place.
 use Prim.Native.Nat.{_-_}
+use Rattle.heap.proofs.Freed.{invalidated-above}
 use Rattle.heap.proofs.Front.{front-end, front-none, front-step, mapFront}
 use Rattle.rules.specs.Words.{afterFree}
 use borrow.Author.Needs.{needs}
@@ -10,10 +11,16 @@ use Rattle.heap.proofs.cells.sweep.Statement.{statement}
 use Rattle.heap.proofs.cells.sweep.Tie as tie
 
 abbrev Inv-loop : tie.InvT-loop
-Inv-loop words₀ cell i₀ words i = (length words ≡ length words₀) × (words ≡ mapFront (afterFree cell) i words₀)
+Inv-loop words₀ cell mark i₀ words i = (length words ≡ length words₀) × (words ≡ mapFront (afterFree cell) i words₀)
 
 abbrev μ-loop : tie.MeasureT-loop
-μ-loop words₀ cell i₀ words i = length words - i
+μ-loop words₀ cell mark i₀ words i = length words - i
+
+invalidate-requires : tie.Need-invalidate-requires Inv-loop μ-loop
+invalidate-requires c κs = search needs
+
+sub-mark : tie.Need-sub-mark Inv-loop μ-loop
+sub-mark c = rw (c .invalidate .ensures) (invalidated-above (c .before .before .args .cell) (omega arith) .0)
 
 loop-holds : tie.Need-loop-holds Inv-loop μ-loop
 loop-holds c = (search needs, front-none _ _)
@@ -25,7 +32,7 @@ slice-read-after-free : tie.Need-slice-read-after-free Inv-loop μ-loop
 slice-read-after-free c = search needs
 
 after-free-requires : tie.Need-after-free-requires Inv-loop μ-loop
-after-free-requires c κs = search needs
+after-free-requires c κs = omega (arith, c .before .before .before .invalidate .ensures, invalidated-above (c .before .before .before .before .before .args .cell) (omega arith) .0)
 
 mul-words : tie.Need-mul-words Inv-loop μ-loop
 mul-words c = search needs
@@ -54,6 +61,8 @@ sweep-spec =
     (tie.spec
     Inv-loop
     μ-loop
+    invalidate-requires
+    sub-mark
     loop-holds
     mul-after-free
     slice-read-after-free
