@@ -1,7 +1,7 @@
 -- The checks 7 to 10 of a field's numbers, by its row.
 -- Assumes nothing.
 use Prim.Native.Nat.{ℕ, _+_, _*_}
-use mathlib.Core.Bool.{Bool, true, cond, _&&_, _||_}
+use mathlib.Core.Bool.{Bool, true, false, cond, _&&_, _||_}
 use mathlib.Core.List.{List, [], _∷_}
 use lib.Dec.{ltb, leb}
 use Rattle.fields.specs.declared.rows.Slot.{Slot}
@@ -17,11 +17,14 @@ use Rattle.fields.specs.Order.{Test, test}
 unfoldable pub mayName : ℕ → ℕ → Bool
 mayName t x = ltb x sharedVariables || (leb (sharedVariables + ownedVariables * t) x && ltb x (sharedVariables + ownedVariables * t + ownedVariables))
 
+abbrev pub namesVariable : Slot → Bool
+namesVariable Absent = false
+namesVariable Pointer = true
+namesVariable Data = true
+namesVariable Selector = false
+
 abbrev pub isNamed : ℕ → Slot → ℕ → Bool
-isNamed t Absent x = true
-isNamed t Pointer x = mayName t x
-isNamed t Data x = mayName t x
-isNamed t Selector x = true
+isNamed t slot x = cond (namesVariable slot) (mayName t x) true
 
 abbrev pub isSelected : Slot → ℕ → Bool
 isSelected Absent x = true

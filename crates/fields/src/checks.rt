@@ -1,6 +1,6 @@
 // The checks 7 to 10 of a field's numbers, by its row.
 ghost use mathlib.Core.Path.{_≡_};
-ghost use Rattle.fields.specs.Checks.{everySlot, isCell, isNamed, isSelected, mayName, valueChecks};
+ghost use Rattle.fields.specs.Checks.{everySlot, isCell, isNamed, isSelected, mayName, namesVariable, valueChecks};
 ghost use Rattle.fields.specs.Order.{inOrder};
 use super::Field;
 use super::RecordedCell;
@@ -13,28 +13,34 @@ pub enum Checked {
     Failed(Refusal),
 }
 
+// Past the shared variables each thread owns as many as the next: which one owns a variable is a quotient.
 fn may_name(thread: u8, x: u8) -> bool
     ensures { λ r. ⌜ r ≡ mayName thread x ⌝ }
 {
     if x < Field::SHARED {
         return true;
     }
-    let owned = (Field::SHARED as u16) + (Field::OWNED as u16) * (thread as u16);
-    if (x as u16) < owned {
-        return false;
+    (x - Field::SHARED) / Field::OWNED == thread
+}
+
+fn names_variable(slot: Slot) -> bool
+    ensures { λ r. ⌜ r ≡ namesVariable slot ⌝ }
+{
+    match slot {
+        Slot::Absent => false,
+        Slot::Pointer => true,
+        Slot::Data => true,
+        Slot::Selector => false,
     }
-    (x as u16) < owned + (Field::OWNED as u16)
 }
 
 fn is_named(thread: u8, slot: Slot, x: u8) -> bool
     ensures { λ r. ⌜ r ≡ isNamed thread slot x ⌝ }
 {
-    match slot {
-        Slot::Absent => true,
-        Slot::Pointer => may_name(thread, x),
-        Slot::Data => may_name(thread, x),
-        Slot::Selector => true,
+    if names_variable(slot) {
+        return may_name(thread, x);
     }
+    true
 }
 
 fn is_selected(slot: Slot, x: u8) -> bool
