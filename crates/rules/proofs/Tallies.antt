@@ -53,7 +53,7 @@ pub counted : (a : Act) (s : State) → Counted s (effect a s)
 unfolding countField
 counted a s = record { fields = rw (apply-fields (a .change) s); mallocs = apply-mallocs (a .change) s }
 
-one-at-most : (b : Bool) → cond b 1 0 ≤ 1
+pub one-at-most : (b : Bool) → cond b 1 0 ≤ 1
 one-at-most b = either (λ n. n ≤ 1) b (omega arith) (omega arith)
 
 pub live-at-most : (status : List ℕ) → liveCount status ≤ length status

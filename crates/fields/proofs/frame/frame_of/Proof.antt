@@ -4,7 +4,7 @@ use Rattle.fields.specs.Rows.{lengthOf}
 use borrow.Author.Needs.{needs}
 use borrow.Author.Tests.{eq-eqb, le-leb, lt-leb, ne-eqb}
 use denote.Ref.{now}
-use lib.ListN.{drop, getD, length, length-drop}
+use lib.ListN.{getD, length, length-drop}
 use mathlib.Core.Path.{_∙_, sym}
 use native.Mathlib.Omega.{arith}
 use Rattle.fields.proofs.frame.frame_of.Statement.{statement}

@@ -2,7 +2,6 @@
 use Rattle.fields.proofs.Digits.{quad-at}
 use borrow.Author.Needs.{needs}
 use denote.Ref.{now}
-use mathlib.Core.Path.{_∙_, sym}
 use native.Mathlib.Omega.{arith}
 use Rattle.fields.proofs.numbers.u32_at.Statement.{statement}
 use Rattle.fields.proofs.numbers.u32_at.Tie as tie
