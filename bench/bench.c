@@ -1,5 +1,5 @@
-/* The proved judge and a plain C judge on the same logs, in one process: first compared, then timed.
- * Prints for each mix of logs the best time of each, over interleaved rounds, and their ratio. */
+/* The proved judge and two plain C judges, one in place and one that hands the board on by value, on the same logs, in one process:
+ * first compared, then timed. Prints for each mix of logs the best times over interleaved rounds, and their ratios. */
 #include <stdio.h>
 #include <string.h>
 #include <time.h>
@@ -26,19 +26,24 @@ static uint32_t judge_over(Judge *judge, Lent *l, const uint8_t *log, size_t len
                  l->answer, THAWHAZEL_ANSWER);
 }
 
-/* 1 where both judges return the same for every log and leave every byte of what is lent alike. */
+enum { PROVED, PLAIN, BY_VALUE, JUDGES };
+
+static Judge *const judges[JUDGES] = {thawhazel_judge, plain_judge, by_value_judge};
+
+/* 1 where all judges return the same for every log and leave every byte of what is lent alike. */
 static int agree(const Mix *mix, long *kinds) {
-    static Lent proved, plain;
+    static Lent lent[JUDGES];
+    uint32_t kind[JUDGES];
     for (int i = 0; i < mix->count; i++) {
-        memset(&proved, 0xaa, sizeof proved);
-        memset(&plain, 0xaa, sizeof plain);
-        uint32_t kind = judge_over(thawhazel_judge, &proved, mix->bytes[i], mix->lengths[i]);
-        uint32_t other = judge_over(plain_judge, &plain, mix->bytes[i], mix->lengths[i]);
-        if (kind != other || memcmp(&proved, &plain, sizeof proved) != 0) {
-            printf("%s: the judges differ on log %d\n", mix->name, i);
-            return 0;
+        for (int j = 0; j < JUDGES; j++) {
+            memset(&lent[j], 0xaa, sizeof lent[j]);
+            kind[j] = judge_over(judges[j], &lent[j], mix->bytes[i], mix->lengths[i]);
+            if (kind[j] != kind[PROVED] || memcmp(&lent[j], &lent[PROVED], sizeof lent[j]) != 0) {
+                printf("%s: the judges differ on log %d\n", mix->name, i);
+                return 0;
+            }
         }
-        kinds[kind]++;
+        kinds[kind[PROVED]]++;
     }
     return 1;
 }
@@ -56,17 +61,17 @@ static double time_of(Judge *judge, Lent *l, const Mix *mix, int repeats) {
     return (seconds() - begin) / repeats / mix->count;
 }
 
-/* Both judges take turns over one and the same buffers, so that neither has the better place. */
+/* The judges take turns over one and the same buffers, so that none has the better place. */
 static void compare(const Mix *mix, int repeats) {
     static Lent lent;
-    double proved = 1e9, plain = 1e9;
-    for (int round = 0; round < ROUNDS; round++) {
-        double a = time_of(plain_judge, &lent, mix, repeats);
-        double b = time_of(thawhazel_judge, &lent, mix, repeats);
-        if (a < plain) plain = a;
-        if (b < proved) proved = b;
-    }
-    printf("%-12s proved %8.2f us a log, plain %8.2f us a log, ratio %.2f\n", mix->name, proved * 1e6, plain * 1e6, proved / plain);
+    double best[JUDGES] = {1e9, 1e9, 1e9};
+    for (int round = 0; round < ROUNDS; round++)
+        for (int j = 0; j < JUDGES; j++) {
+            double time = time_of(judges[j], &lent, mix, repeats);
+            if (time < best[j]) best[j] = time;
+        }
+    printf("%-12s proved %7.2f, plain %7.2f, by value %7.2f us a log; proved to plain %.2f, by value to plain %.2f\n", mix->name,
+           best[PROVED] * 1e6, best[PLAIN] * 1e6, best[BY_VALUE] * 1e6, best[PROVED] / best[PLAIN], best[BY_VALUE] / best[PLAIN]);
 }
 
 static int check_random(Mix *mix) {

@@ -1,5 +1,7 @@
 /* A plain C judge, written from docs/01-scope.md and document 02 as one would without proofs: a switch over the tags that works
- * on the caller's buffers in place. Numbers in comments are the refusals' numbers. */
+ * on the caller's buffers in place. Numbers in comments are the refusals' numbers.
+ * Compiled with BY_VALUE it is the same judge in the form that document 01 asks of the proved one: the board goes to the step of each
+ * command by value and comes back by value. What that one takes more is what the form costs. */
 #include "plain.h"
 
 enum { UNSET = 1024, INVALID = 2048 };
@@ -186,6 +188,56 @@ static uint32_t step(Run *run, uint8_t tag, const uint8_t *v) {
 
 /* ---- a whole log */
 
+#ifdef BY_VALUE
+#define JUDGE by_value_judge
+
+typedef struct {
+    uint16_t pointers[VARIABLES];
+    uint32_t variables[VARIABLES];
+} Board;
+
+typedef struct {
+    Board board;
+    uint32_t kind;
+} Stepped;
+
+static Stepped step_by_value(Run *run, Board board, uint8_t tag, const uint8_t *v) {
+    Stepped stepped;
+    run->pointers = board.pointers;
+    run->variables = board.variables;
+    stepped.kind = step(run, tag, v);
+    stepped.board = board;
+    return stepped;
+}
+
+/* The board starts fresh and, at the end, is copied over what was lent. */
+static uint32_t run_log(Run *run, const uint8_t *log, size_t length) {
+    uint16_t *pointers = run->pointers;
+    uint32_t *variables = run->variables, kind = GO_ON;
+    Board board;
+    for (int i = 0; i < VARIABLES; i++) board.pointers[i] = UNSET, board.variables[i] = 0;
+    size_t at = 0;
+    while (at < length) {
+        run->at = (uint32_t)at;
+        uint32_t why = run->fields >= LOG_FIELDS ? 3 : check_field(log + at, length - at);
+        if (why) {
+            kind = refuse(run, why);
+            break;
+        }
+        uint8_t tag = log[at];
+        Stepped stepped = step_by_value(run, board, tag, log + at + HEADER);
+        board = stepped.board;
+        kind = stepped.kind;
+        if (kind != GO_ON) break;
+        run->fields++;
+        at += HEADER + value_lengths[tag];
+    }
+    for (int i = 0; i < VARIABLES; i++) pointers[i] = board.pointers[i], variables[i] = board.variables[i];
+    return kind == GO_ON ? accept(run) : kind;
+}
+#else
+#define JUDGE plain_judge
+
 static uint32_t run_log(Run *run, const uint8_t *log, size_t length) {
     size_t at = 0;
     while (at < length) {
@@ -201,6 +253,7 @@ static uint32_t run_log(Run *run, const uint8_t *log, size_t length) {
     }
     return accept(run);
 }
+#endif
 
 static void start_fresh(Run *run) {
     for (int i = 0; i < VARIABLES; i++) run->pointers[i] = UNSET, run->variables[i] = 0;
@@ -208,14 +261,14 @@ static void start_fresh(Run *run) {
     for (int i = 0; i < CELLS; i++) run->numbers[i] = 0, run->status[i] = NEVER_USED;
 }
 
-uint32_t plain_judge(const uint8_t *log, size_t log_length,
-                     uint16_t *pointers, size_t pointers_length,
-                     uint16_t *selectors, size_t selectors_length,
-                     uint32_t *variables, size_t variables_length,
-                     uint32_t *numbers, size_t numbers_length,
-                     uint8_t *status, size_t status_length,
-                     uint32_t *tally, size_t tally_length,
-                     uint32_t *answer, size_t answer_length) {
+uint32_t JUDGE(const uint8_t *log, size_t log_length,
+               uint16_t *pointers, size_t pointers_length,
+               uint16_t *selectors, size_t selectors_length,
+               uint32_t *variables, size_t variables_length,
+               uint32_t *numbers, size_t numbers_length,
+               uint8_t *status, size_t status_length,
+               uint32_t *tally, size_t tally_length,
+               uint32_t *answer, size_t answer_length) {
     Run run = {pointers, selectors, variables, numbers, status, answer, 0, 0, 0, 0};
     if (tally_length < 3 || answer_length < 4) return NO_ROOM;
     if (log_length > LOG_BYTES) return decline(&run, 1);
