@@ -9,13 +9,15 @@ use Rattle.fields.specs.Order.{Test}
 use Rattle.rules.specs.declared.Act.{Act}
 use Rattle.rules.specs.declared.Answer.{Answer}
 use Rattle.rules.specs.declared.Answer.the-variants.{Go, Race, Refuse}
+use Rattle.rules.specs.declared.Change.{Change}
+use Rattle.rules.specs.declared.Change.the-variants.{Stay, Allocate, Release, Move, Put}
+use Rattle.rules.specs.declared.Guard.{Guard}
 use Rattle.rules.specs.Acts.{compared, frees, gives, through}
 use Rattle.rules.specs.Check.{check, checkBy, each, holds, points, roomFor, vacant, valid}
 use Rattle.rules.specs.State.{State}
-use Rattle.judge.specs.declared.looks.Given.{Given}
-use Rattle.judge.specs.declared.looks.Looks.{Looks}
-use Rattle.judge.specs.Answers.{answerOf, first, racesIn, roomIn, unsetIn, vacantIn}
-use Rattle.judge.specs.Looks.{cellIn, lookIn, looksIn}
+use Rattle.judge.specs.declared.looks.Look.{Look}
+use Rattle.judge.specs.Answers.{answerOf, checkChange, first, guardedIn, racesIn, roomIn, throughIn, unsetIn, vacantIn}
+use Rattle.judge.specs.Looks.{lookIn}
 
 -- tests that stop where they do not pass
 module _ {K : Type 0} (passes : K → Bool) (says : K → Answer) (stops : (k : K) (later : Answer) → first (says k) later ≡ says k) where
@@ -36,18 +38,36 @@ module _ {K : Type 0} (passes : K → Bool) (says : K → Answer) (stops : (k : 
   answer-append : (ks ms : List K) → answerOf (each passes says (ks ++ ms)) ≡ first (answerOf (each passes says ks)) (answerOf (each passes says ms))
   answer-append ks ms = rw (each-append ks ms) (answer-then ks (each passes says ms))
 
-pub races-join : (pointers : List ℕ) (l : Looks) (x y r : Answer) → x ≡ racesIn pointers (lookIn (l .first)) → y ≡ racesIn pointers (lookIn (l .second)) → r ≡ first x y → r ≡ racesIn pointers (looksIn l)
-races-join pointers l x y r e f g = rw (g, e, f) (sym (answer-append _ Race (λ k z. refl) (lookIn (l .first)) (lookIn (l .second))))
+-- one answer after the other, however they are put together
+first-first : (x y z : Answer) → first (first x y) z ≡ first x (first y z)
+first-first Go y z = refl
+first-first (Race p) y z = refl
+first-first (Refuse r) y z = refl
 
-pub unset-join : (pointers : List ℕ) (l : Looks) (x y r : Answer) → x ≡ unsetIn pointers (lookIn (l .first)) → y ≡ unsetIn pointers (lookIn (l .second)) → r ≡ first x y → r ≡ unsetIn pointers (looksIn l)
-unset-join pointers l x y r e f g = rw (g, e, f) (sym (answer-append _ (λ p. Refuse UnsetPointer) (λ k z. refl) (lookIn (l .first)) (lookIn (l .second))))
+pub first-go : (x : Answer) → first x Go ≡ x
+first-go Go = refl
+first-go (Race p) = refl
+first-go (Refuse r) = refl
+
+-- looked for at some, then at others
+pub races-join : (pointers ps qs : List ℕ) (x y r : Answer) → x ≡ racesIn pointers ps → y ≡ racesIn pointers qs → r ≡ first x y → r ≡ racesIn pointers (ps ++ qs)
+races-join pointers ps qs x y r e f g = rw (g, e, f) (sym (answer-append _ Race (λ k z. refl) ps qs))
+
+pub unset-join : (pointers ps qs : List ℕ) (x y r : Answer) → x ≡ unsetIn pointers ps → y ≡ unsetIn pointers qs → r ≡ first x y → r ≡ unsetIn pointers (ps ++ qs)
+unset-join pointers ps qs x y r e f g = rw (g, e, f) (sym (answer-append _ (λ p. Refuse UnsetPointer) (λ k z. refl) ps qs))
+
+-- where the two looks are those of the change's expressions
+pub through-looks : (pointers : List ℕ) (to from : Look) (ps qs : List ℕ) (a : Answer) → lookIn to ≡ ps → lookIn from ≡ qs → a ≡ throughIn pointers (lookIn to ++ lookIn from) → a ≡ throughIn pointers (ps ++ qs)
+through-looks pointers to from ps qs a e f g = rw (← e, ← f) g
 
 -- all the checks
 module _ (a : Act) (s : State) where
   check-parts : first (roomIn (s .mallocs) (gives (a .change)))
-      (first (first (racesIn (s .pointers) (compared (a .guard))) (first (racesIn (s .pointers) (frees (a .change))) (racesIn (s .pointers) (through (a .change)))))
+      (first (racesIn (s .pointers) (compared (a .guard)))
+      (first (racesIn (s .pointers) (frees (a .change)))
+      (first (racesIn (s .pointers) (through (a .change)))
       (first (unsetIn (s .pointers) (through (a .change)))
-      (first (vacantIn (s .status) (gives (a .change))) (cond (holds s (a .guard)) Go (Refuse AssertionFails)))))
+      (first (vacantIn (s .status) (gives (a .change))) (cond (holds s (a .guard)) Go (Refuse AssertionFails)))))))
       ≡ check a s
   unfolding checkBy
   check-parts =
@@ -58,15 +78,15 @@ module _ (a : Act) (s : State) where
         answer-then (vacant s) (λ c. Refuse LiveCell) (λ k z. refl),
         answer-append (valid s) Race (λ k z. refl) (compared (a .guard)) (frees (a .change) ++ through (a .change)),
         answer-append (valid s) Race (λ k z. refl) (frees (a .change)) (through (a .change)),
+        first-first (racesIn (s .pointers) (compared (a .guard))),
+        first-first (racesIn (s .pointers) (frees (a .change))),
       )
 
-  pub check-join : (given : Given) (asserted freed passed : Looks) (room r₁ r₂ r₃ unset vacancy holding a₁ a₂ a₃ a₄ a₅ r : Answer)
-      → cellIn given ≡ gives (a .change) → looksIn passed ≡ through (a .change) → looksIn asserted ≡ compared (a .guard) → looksIn freed ≡ frees (a .change)
-      → room ≡ roomIn (s .mallocs) (cellIn given)
-      → r₁ ≡ racesIn (s .pointers) (looksIn asserted) → r₂ ≡ racesIn (s .pointers) (looksIn freed) → r₃ ≡ racesIn (s .pointers) (looksIn passed)
-      → unset ≡ unsetIn (s .pointers) (looksIn passed) → vacancy ≡ vacantIn (s .status) (cellIn given)
-      → holding ≡ cond (holds s (a .guard)) Go (Refuse AssertionFails)
-      → a₁ ≡ first r₂ r₃ → a₂ ≡ first r₁ a₁ → a₃ ≡ first vacancy holding → a₄ ≡ first unset a₃ → a₅ ≡ first a₂ a₄ → r ≡ first room a₅
-      → r ≡ check a s
-  check-join given asserted freed passed room r₁ r₂ r₃ unset vacancy holding a₁ a₂ a₃ a₄ a₅ r g t c f e₁ e₂ e₃ e₄ e₅ e₆ e₇ f₁ f₂ f₃ f₄ f₅ f₆ =
-      rw (f₆, f₅, f₄, f₃, f₂, f₁, e₇, e₆, e₅, e₄, e₃, e₂, e₁, g, t, c, f) check-parts
+-- by the kind of the change
+pub check-kinds : (g : Guard) (c : Change) (s : State)
+    → first (roomIn (s .mallocs) (gives c)) (guardedIn (s .pointers) (s .variables) g (checkChange c s)) ≡ check (record { guard = g; change = c }) s
+check-kinds g Stay s = check-parts (record { guard = g; change = Stay }) s
+check-kinds g (Allocate p c d) s = check-parts (record { guard = g; change = Allocate p c d }) s
+check-kinds g (Release p) s = check-parts (record { guard = g; change = Release p }) s
+check-kinds g (Move x y) s = rw (first-first (racesIn (s .pointers) (through (Move x y)))) (check-parts (record { guard = g; change = Move x y }) s)
+check-kinds g (Put x v) s = rw (first-first (racesIn (s .pointers) (through (Put x v)))) (check-parts (record { guard = g; change = Put x v }) s)

@@ -127,7 +127,7 @@ fn renew(selectors: &mut [u16], numbers: &mut [u32], was: u8, cell: u16, number:
 }
 
 // Data variables are not touched by a malloc, so what is said holds whatever these are.
-fn give_cell(
+pub fn give_cell(
     p: u8,
     cell: u16,
     number: u32,
@@ -177,7 +177,7 @@ fn free_cell(
 }
 
 // The free of an unset pointer changes nothing.
-fn release(
+pub fn release(
     p: u8,
     tally: Tally,
     pointers: &mut [u16],
@@ -196,7 +196,7 @@ fn release(
 }
 
 // A copy takes the whole word, mark included.
-fn move_word(to: PExp, from: PExp, pointers: &mut [u16], selectors: &mut [u16])
+pub fn move_word(to: PExp, from: PExp, pointers: &mut [u16], selectors: &mut [u16])
     ensures { λ _. ⌜ ((tally : Tally) (variables numbers status : List ℕ) → stateOf (boardOf (now (pointers .exit)) variables) tally (now (selectors .exit)) numbers status ≡ apply (Change.Move to from) (stateOf (boardOf (now (pointers .entry)) variables) tally (now (selectors .entry)) numbers status)) ⌝ }
 {
     let target = place_of(pointers, to);
@@ -205,48 +205,16 @@ fn move_word(to: PExp, from: PExp, pointers: &mut [u16], selectors: &mut [u16])
     write_word(pointers, selectors, target, word);
 }
 
-fn put_number(to: DExp, value: Value, pointers: &[u16], variables: &mut [u32], numbers: &mut [u32])
+pub fn put_number(
+    to: DExp,
+    value: Value,
+    pointers: &[u16],
+    variables: &mut [u32],
+    numbers: &mut [u32],
+)
     ensures { λ _. ⌜ ((tally : Tally) (selectors status : List ℕ) → stateOf (boardOf (now (pointers .entry)) (now (variables .exit))) tally selectors (now (numbers .exit)) status ≡ apply (Change.Put to value) (stateOf (boardOf (now (pointers .entry)) (now (variables .entry))) tally selectors (now (numbers .entry)) status)) ⌝ }
 {
     let target = data_place_of(pointers, to);
     let number = value_in(pointers, variables, numbers, value);
     store_number(variables, numbers, target, number);
-}
-
-// The two arrays are those of the board that the step hands back: they are changed where they lie, and no board is copied here.
-pub fn apply_change(
-    change: Change,
-    tally: Tally,
-    pointers: &mut [u16],
-    variables: &mut [u32],
-    selectors: &mut [u16],
-    numbers: &mut [u32],
-    status: &mut [u8],
-) -> Tally
-    requires { ⌜ (tally .mallocs ≤ logFields) × Counts tally (now status) ⌝ }
-    ensures { λ r. ⌜ stateOf (boardOf (now (pointers .exit)) (now (variables .exit))) r (now (selectors .exit)) (now (numbers .exit)) (now (status .exit)) ≡ apply change (stateOf (boardOf (now (pointers .entry)) (now (variables .entry))) tally (now (selectors .entry)) (now (numbers .entry)) (now (status .entry))) ⌝ }
-    ensures { λ r. ⌜ Counts r (now (status .exit)) ⌝ }
-{
-    match change {
-        Change::Stay => tally,
-        Change::Allocate(p, cell, number) => give_cell(
-            p,
-            cell.0,
-            number,
-            tally,
-            pointers,
-            selectors,
-            numbers,
-            status,
-        ),
-        Change::Release(p) => release(p, tally, pointers, selectors, status),
-        Change::Move(to, from) => {
-            move_word(to, from, pointers, selectors);
-            tally
-        }
-        Change::Put(to, value) => {
-            put_number(to, value, pointers, variables, numbers);
-            tally
-        }
-    }
 }

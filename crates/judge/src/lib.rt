@@ -6,6 +6,7 @@ mod copies;
 mod effects;
 mod lent;
 mod looks;
+mod plays;
 mod replay;
 mod run;
 mod step;

@@ -4,12 +4,6 @@ use borrow.Author.Tests.{eq-eqb, ne-eqb}
 use Rattle.judge.proofs.checks.check_vacant.Statement.{statement}
 use Rattle.judge.proofs.checks.check_vacant.Tie as tie
 
-enum-told : tie.Need-enum-told
-enum-told c = search needs
-
-enum-known-given : tie.Need-enum-known-given
-enum-known-given c = search needs
-
 cast-status-at : tie.Need-cast-status-at
 cast-status-at c = search needs
 
@@ -17,22 +11,10 @@ status-at-requires : tie.Need-status-at-requires
 status-at-requires c κs = search needs
 
 returns : tie.Need-returns
-returns c = rw (c .before .before .before .before .given .given .1, ← (c .before .status-at .ensures), eq-eqb _ _ (c .if1 .taken))
+returns c = rw (← (c .before .status-at .ensures), eq-eqb _ _ (c .if1 .taken))
 
 returns-2 : tie.Need-returns-2
-returns-2 c = search needs
-
-returns-3 : tie.Need-returns-3
-returns-3 c = rw (c .before .before .before .before .given .given .1, ← (c .before .status-at .ensures), ne-eqb _ _ (c .if1 .left))
+returns-2 c = rw (← (c .before .status-at .ensures), ne-eqb _ _ (c .if1 .left))
 
 pub check-vacant-spec : {M : Type 1} → statement M
-check-vacant-spec =
-    tie.close
-    (tie.spec
-    enum-told
-    enum-known-given
-    cast-status-at
-    status-at-requires
-    returns
-    returns-2
-    returns-3)
+check-vacant-spec = tie.close (tie.spec cast-status-at status-at-requires returns returns-2)
