@@ -1,6 +1,7 @@
 -- The copy of one field, as it is written over the output, and what is left to be copied.
 -- Assumes nothing.
 use Prim.Native.Nat.{ℕ, suc, _+_, _-_, _<_, _≤_}
+use borrow.Author.Tests.{lt-ltb}
 use lib.Dec.{ltb}
 use lib.ListN.{drop, drop-of-length-le, length, length-append, length-drop, take}
 use lib.Seq.{drop-append-add, drop-drop, length-take-le, take-at}
@@ -12,18 +13,15 @@ use native.Mathlib.Omega.{arith}
 use Rattle.fields.proofs.Passing.{Passes}
 use Rattle.fields.proofs.Writing.{length-fieldBytes, writes}
 use Rattle.fields.specs.declared.Field.{Field}
-use Rattle.fields.specs.declared.Refusal.{Refusal}
 use Rattle.fields.specs.declared.Written.{Written}
 use Rattle.fields.specs.Checks.{isCell, valueChecks}
 use Rattle.fields.specs.Every.{Every}
 use Rattle.fields.specs.Limits.{cells, headerBytes}
-use Rattle.fields.specs.Read.{Got, Refused, readField}
+use Rattle.fields.specs.Read.{Got, readField}
 use Rattle.fields.specs.Rows.{lengthOf, rowOf}
 use Rattle.fields.specs.Write.{Writing, fieldBytes, writeField, writing}
 use Rattle.rules.proofs.Checks.{Clear, each-stops, passedBy, race-stops}
-use Rattle.rules.proofs.Tallies.{counted}
-use Rattle.rules.specs.declared.Answer.{Answer}
-use Rattle.rules.specs.declared.Answer.the-variants.{Go, Race, Refuse}
+use Rattle.rules.specs.declared.Answer.the-variants.{Go, Race}
 use Rattle.rules.specs.declared.Change.{Change}
 use Rattle.rules.specs.declared.Change.the-variants.{Stay, Allocate, Release, Move, Put}
 use Rattle.rules.specs.Acts.{gives, touched}
@@ -31,12 +29,10 @@ use Rattle.rules.specs.Check.{check, each, roomFor, valid}
 use Rattle.rules.specs.Commands.{actOf}
 use Rattle.rules.specs.Effect.{effect}
 use Rattle.rules.specs.Replay.{copyChange, copyField, nextCell, recast}
-use Rattle.rules.specs.Run.{Outcome, next}
 use Rattle.rules.specs.State.{State}
-use Rattle.judge.specs.Replays.{Carried, IsAccepted, outputFrom, replayFrom}
-use Rattle.judge.specs.Runs.{runFrom}
+use Rattle.judge.specs.Replays.{copiedAt, replayFrom}
 use Rattle.judge.specs.Steps.{Step, stepOf}
-use Rattle.judge.proofs.Running.{got-passed, part, run-got, run-refused, some-left}
+use Rattle.judge.proofs.Running.{got-passed, part, some-left}
 
 -- ---- a command that goes has a malloc left for the cell that it gives out, so its copy passes the checks that the field passed
 cell-right : (there : Bool) (c : ℕ) → ltb c cells ≡ true → isCell there c ≡ true
@@ -59,13 +55,13 @@ module _ (s : State) (f : Field) (right : Every Passes (valueChecks (rowOf (f .t
 -- ---- bytes written at a place of an output
 module _ (out bytes : List ℕ) (at : ℕ) (room : at + length bytes ≤ length out) where
   abbrev after : List ℕ
-  after = take at out ++ ((bytes ++ drop (length bytes) (drop at out)) ++ drop (length out - at) (drop at out))
+  after = take at out ++ (bytes ++ drop (length bytes) (drop at out))
 
   front : length (take at out ++ bytes) ≡ at + length bytes
   front = rw (length-append, length-take-le at out (omega arith))
 
   apart : after ≡ (take at out ++ bytes) ++ drop (at + length bytes) out
-  apart = rw (drop-drop, drop-drop, drop-of-length-le out {i = at + (length out - at)} (omega arith), append-nil, append-assoc)
+  apart = rw (drop-drop, append-assoc)
 
   written-front : take (at + length bytes) after ≡ take at out ++ bytes
   written-front = rw apart (take-at (take at out ++ bytes) (drop (at + length bytes) out) (at + length bytes) front)
@@ -81,6 +77,14 @@ module _ (out bytes : List ℕ) (at : ℕ) (room : at + length bytes ≤ length 
   spliced : (rest : List ℕ) (end : ℕ) → at + length bytes ≤ end → take (at + length bytes) after ++ (rest ++ drop end after) ≡ take at out ++ ((bytes ++ rest) ++ drop end out)
   spliced rest end past = rw (written-front, written-rest end past) (simp append-assoc)
 
+-- the output as the code leaves it, which writes in a part of it
+pub copied-at : (out : List ℕ) (at : ℕ) → at < length out → (copy f : Field) → copy ≡ f → (answer : Written) (bytes : List ℕ) → writing answer bytes ≡ writeField copy (take (length out - at) (drop at out))
+    → take at out ++ (bytes ++ drop (length out - at) (drop at out)) ≡ copiedAt at f out
+unfolding copiedAt
+copied-at out at within copy f same answer bytes put =
+    let laid : bytes ≡ writeField f (drop at out) .output = ap (λ (w : Writing). w .output) (rw (part out at within, same) at put) in
+    rw (lt-ltb at (length out) within, laid, drop-drop, drop-of-length-le out {i = at + (length out - at)} (omega arith), append-nil)
+
 -- ---- the replay, by what is read at the front of the bytes
 replay-got : (n : ℕ) (b : List ℕ) (s : State) (f : Field) → 0 < length b → readField b ≡ Got f
     → replayFrom (suc n) b s ≡ fieldBytes (copyField s (nextCell s) f) ++ replayFrom n (drop (headerBytes + lengthOf (f .tag)) b) (effect (actOf f) s)
@@ -88,60 +92,42 @@ unfolding replayFrom
 replay-got n [] s f some e = absurd (not-suc-le-zero some)
 replay-got n (x ∷ b) s f some e = rw e
 
--- ---- in a log that is accepted, every field is read and goes
-goes-by : (k : Answer) (n : ℕ) (f : Field) (s : State) (later : Outcome) → IsAccepted (next k n f s later .verdict) → k ≡ Go
-goes-by Go n f s later h = refl
-goes-by (Race p) n f s later h = absurd h
-goes-by (Refuse r) n f s later h = absurd h
+-- ---- one field that goes, at a place of the log
+-- the output as it comes to be: what is written up to a place of the log, the replay from there, and what is held past the log
+unfoldable pub outputFrom : ℕ → List ℕ → ℕ → State → List ℕ → List ℕ
+outputFrom n log at s out = take at out ++ (replayFrom n (drop at log) s ++ drop (length log) out)
 
-module _ (l : List ℕ) (at : ℕ) (within : at < length l) (s : State) where
-  pub copy-refused : (n : ℕ) (r : Refusal) → readField (take (length l - at) (drop at l)) ≡ Refused r → IsAccepted (runFrom (suc n) (drop at l) s .verdict) → ⊥
-  copy-refused n r e h = rw (run-refused n (drop at l) s r (some-left l at within) (rw (part l at within) at e)) at h
+module _ (l : List ℕ) (at : ℕ) (within : at < length l) (f : Field) (read : readField (drop at l) ≡ Got f)
+    (s : State) (step : Step) (stepped : step ≡ stepOf (actOf f) s) (goes : step .answer ≡ Go) (out : List ℕ) (room : length l ≤ length out) where
+  abbrev size : ℕ
+  size = headerBytes + lengthOf (f .tag)
 
-  module _ (f : Field) (read : readField (take (length l - at) (drop at l)) ≡ Got f) (step : Step) (stepped : step ≡ stepOf (actOf f) s)
-      (out : List ℕ) (room : length l ≤ length out) (copy : Field) (copied : copy ≡ copyField s (nextCell s) f)
-      (answer : Written) (bytes : List ℕ) (put : writing answer bytes ≡ writeField copy (take (length out - at) (drop at out))) where
-    abbrev size : ℕ
-    size = headerBytes + lengthOf (f .tag)
+  abbrev copy : Field
+  copy = copyField s (nextCell s) f
 
-    here : readField (drop at l) ≡ Got f
-    here = rw (part l at within) at read
+  passed : check (actOf f) s ≡ Go
+  unfolding stepOf
+  passed = sym (ap (λ (x : Step). x .answer) stepped) ∙ goes
 
-    fits : at + size ≤ length l
-    fits = omega (arith, got-passed (drop at l) f here .fits, length-drop at l)
+  done : step .state ≡ effect (actOf f) s
+  unfolding stepOf
+  done = rw (stepped, passed)
 
-    module _ (n : ℕ) (accepted : IsAccepted (runFrom (suc n) (drop at l) s .verdict)) where
-      ran : runFrom (suc n) (drop at l) s ≡ next (check (actOf f) s) (s .fields) f s (runFrom n (drop size (drop at l)) (effect (actOf f) s))
-      ran = run-got n (drop at l) s f (some-left l at within) here
+  fits : at + size ≤ length l
+  fits = omega (arith, got-passed (drop at l) f read .fits, length-drop at l)
 
-      goes : check (actOf f) s ≡ Go
-      goes = goes-by (check (actOf f) s) (s .fields) f s (runFrom n (drop size (drop at l)) (effect (actOf f) s)) (rw ran at accepted)
+  laid : copiedAt at copy out ≡ take at out ++ (fieldBytes copy ++ drop (length (fieldBytes copy)) (drop at out))
+  unfolding copiedAt
+  laid =
+      let p = got-passed (drop at l) f read in
+      let w = writes copy (drop at out) (p .known) (copy-right s f (p .right) passed) (omega (arith, length-fieldBytes copy, length-drop at out, fits)) in
+      rw (lt-ltb at (length out) (omega arith), w)
 
-      done : step .state ≡ effect (actOf f) s
-      unfolding stepOf
-      done = rw (stepped, goes)
-
-      laid : bytes ≡ fieldBytes copy ++ drop (length (fieldBytes copy)) (drop at out)
-      laid =
-          let p = got-passed (drop at l) f here in
-          let all : take (length out - at) (drop at out) ≡ drop at out = part out at (omega arith) in
-          let n = length-fieldBytes (copyField s (nextCell s) f) in
-          let w = writes (copyField s (nextCell s) f) (drop at out) (p .known) (copy-right s f (p .right) goes) (omega (arith, length-drop at out, length-drop at l, p .fits)) in
-          rw copied (ap (λ (x : Writing). x .output) (rw (all, copied) at put ∙ w))
-
-      pub copy-got : Carried n l at s out (at + size) (step .state) (take at out ++ (bytes ++ drop (length out - at) (drop at out)))
-      unfolding outputFrom
-      copy-got =
-          let count = counted (actOf f) s in
-          let own = fieldBytes (copyField s (nextCell s) f) in
-          let same : length own ≡ size = length-fieldBytes (copyField s (nextCell s) f) in
-          record {
-            further = omega arith;
-            within = fits;
-            fields = rw done (count .fields);
-            mallocs = rw done (count .mallocs);
-            outcome = rw (done, ← drop-drop size at l) (sym (rw goes at ran));
-            output =
-                rw (done, ← drop-drop size at l, replay-got n (drop at l) s f (some-left l at within) here, laid, copied, ← same)
-                (spliced out own at (omega (arith, fits)) (replayFrom n (drop (length own) (drop at l)) (effect (actOf f) s)) (length l) (omega (arith, fits)));
-          }
+  -- what is then still to be written gives the same output
+  pub copy-got : (n : ℕ) → outputFrom n l (at + size) (step .state) (copiedAt at copy out) ≡ outputFrom (suc n) l at s out
+  unfolding outputFrom
+  copy-got n =
+      let own = fieldBytes copy in
+      let same : length own ≡ size = length-fieldBytes copy in
+      rw (done, ← drop-drop size at l, replay-got n (drop at l) s f (some-left l at within) read, laid, ← same)
+      (spliced out own at (omega (arith, fits)) (replayFrom n (drop (length own) (drop at l)) (effect (actOf f) s)) (length l) (omega (arith, fits)))

@@ -1,29 +1,36 @@
--- The replay of a log over what is lent, once the log is judged and, where it is accepted, copied.
+-- The replay of a log over what is lent, once the log is judged and, where it is accepted, judged again with the output.
 -- Assumes nothing.
-use Prim.Native.Nat.{ℕ}
+use Prim.Native.Nat.{ℕ, _≤_}
 use lib.Dec.{leb}
-use lib.ListN.{drop, length}
+use lib.ListN.{drop, length, length-append, length-drop}
 use lib.Seq.{drop-at}
 use mathlib.Core.Bool.{true, false}
 use mathlib.Core.List.{List, _++_}
 use mathlib.Core.Path.{_≡_, _∙_, ap, refl}
+use native.Mathlib.Omega.{arith}
 use Rattle.fields.specs.declared.Refusal.the-variants.{BufferTooShort, LogTooLong, OutputTooShort}
 use Rattle.fields.specs.Limits.{cells, logBytes, logFields}
 use Rattle.rules.specs.declared.Verdict.{Verdict}
 use Rattle.rules.specs.declared.Verdict.the-variants.{Accepted, Declined, Raced, Refused}
-use Rattle.rules.specs.Judging.{Judged, Lent, judged, lent, longEnough}
+use Rattle.rules.specs.Judging.{Judged, Lent, judged, longEnough, showing}
 use Rattle.rules.specs.Log.{located, runBytes}
 use Rattle.rules.specs.Run as run
 use Rattle.rules.specs.Run.{Ending}
 use Rattle.rules.specs.Replay.{replayBytes}
 use Rattle.rules.specs.Replaying.{outputAfter, replayLog, replayed}
-use Rattle.rules.specs.State.{fresh, heapSelectors}
-use Rattle.judge.specs.Judges.{shown}
-use Rattle.judge.specs.Replays.{Copies, IsAccepted, written}
+use Rattle.rules.specs.State.{State, boardPointers, boardVariables, fresh, heapSelectors}
+use Rattle.judge.specs.Judges.{LongEnough, shown}
+use Rattle.judge.specs.Replays.{Copies, IsAccepted, replayFrom, written}
 
--- ---- what the second pass makes at the front of a list is what the first made there
-front-kept : (l rest front made : List ℕ) (k : ℕ) → l ≡ made ++ drop k rest → front ≡ made → length front ≡ k → front ++ drop k l ≡ l
-front-kept l rest front made k e same size = rw (e, ← same, drop-at front (drop k rest) k size)
+-- ---- past its front, a list is what it was
+rest-kept : (l rest made : List ℕ) (k : ℕ) → l ≡ made ++ drop k rest → length l ≡ length rest → k ≤ length rest → drop k l ≡ drop k rest
+rest-kept l rest made k e same fit =
+    let size : length made ≡ k = omega (arith, ap length e, length-append made (drop k rest), length-drop k rest) in
+    rw e (drop-at made (drop k rest) k size)
+
+showing-same : (s : State) (l m : Lent) → drop boardPointers (l .pointers) ≡ drop boardPointers (m .pointers) → drop heapSelectors (l .selectors) ≡ drop heapSelectors (m .selectors)
+    → drop boardVariables (l .variables) ≡ drop boardVariables (m .variables) → drop cells (l .numbers) ≡ drop cells (m .numbers) → drop cells (l .status) ≡ drop cells (m .status) → showing s l ≡ showing s m
+showing-same s l m e₁ e₂ e₃ e₄ e₅ = rw (e₁, e₂, e₃, e₄, e₅)
 
 -- ---- an ending and what is told of it
 abbrev pub TellsAccepted : Verdict → Type 0
@@ -42,7 +49,8 @@ told-kept log out (run.Accepted fields mallocs live) n = absurd (n tt)
 told-kept log out (run.Raced field thread variable) n = refl
 told-kept log out (run.Refused r field) n = refl
 
-accepted-output : (log out : List ℕ) (ending : Ending) → IsAccepted ending → replayBytes logFields log ++ drop (length log) out ≡ outputAfter ending log out
+accepted-output : (log out : List ℕ) (ending : Ending) → IsAccepted ending → replayFrom logFields log fresh ++ drop (length log) out ≡ outputAfter ending log out
+unfolding replayFrom replayBytes
 accepted-output log out (run.Accepted fields mallocs live) h = refl
 accepted-output log out (run.Raced field thread variable) h = absurd h
 accepted-output log out (run.Refused r field) h = absurd h
@@ -52,7 +60,7 @@ module _ (log : List ℕ) (l : Lent) (verdict : Verdict) (after : Lent) (ran : j
   unfolding shown
   as-told = ap (λ (j : Judged). j .verdict) ran
 
-  pub ran-accepted : TellsAccepted verdict → IsAccepted (runBytes logFields log fresh .verdict)
+  ran-accepted : TellsAccepted verdict → IsAccepted (runBytes logFields log fresh .verdict)
   ran-accepted h = told-accepted log (runBytes logFields log fresh .verdict) (rw as-told at h)
 
   replay-as : (out out′ : List ℕ) → out′ ≡ outputAfter (runBytes logFields log fresh .verdict) log out → replayed verdict out′ after ≡ written log out l
@@ -62,17 +70,44 @@ module _ (log : List ℕ) (l : Lent) (verdict : Verdict) (after : Lent) (ran : j
   pub replay-kept : (out : List ℕ) → (TellsAccepted verdict → ⊥) → replayed verdict out after ≡ written log out l
   replay-kept out n = replay-as out out (told-kept log out (runBytes logFields log fresh .verdict) (λ h. n (rw (← as-told) at h)))
 
-  module _ (out out′ selectors numbers status : List ℕ) (copies : Copies log out out′ selectors numbers status)
-      (selectors-size : length selectors ≡ heapSelectors) (numbers-size : length numbers ≡ cells) (status-size : length status ≡ cells) where
-    pub replay-accepted : TellsAccepted verdict
-        → replayed verdict out′ (lent (after .pointers) (selectors ++ drop heapSelectors (after .selectors)) (after .variables) (numbers ++ drop cells (after .numbers)) (status ++ drop cells (after .status)) (after .tally)) ≡ written log out l
+-- ---- the second run, over what the first has left
+pub record SameSizes (l after : Lent) : Type 0 where
+  pub pointers : length (after .pointers) ≡ length (l .pointers)
+  pub selectors : length (after .selectors) ≡ length (l .selectors)
+  pub variables : length (after .variables) ≡ length (l .variables)
+  pub numbers : length (after .numbers) ≡ length (l .numbers)
+  pub status : length (after .status) ≡ length (l .status)
+
+module _ (l after : Lent) (fit : LongEnough (l .pointers) (l .selectors) (l .variables) (l .numbers) (l .status)) (sizes : SameSizes l after) where
+  pub still-enough : LongEnough (after .pointers) (after .selectors) (after .variables) (after .numbers) (after .status)
+  still-enough =
+      record {
+        pointers-fit = rw (sizes .pointers) (fit .pointers-fit);
+        selectors-fit = rw (sizes .selectors) (fit .selectors-fit);
+        variables-fit = rw (sizes .variables) (fit .variables-fit);
+        numbers-fit = rw (sizes .numbers) (fit .numbers-fit);
+        status-fit = rw (sizes .status) (fit .status-fit);
+      }
+
+  module _ (log : List ℕ) (verdict : Verdict) (ran : judged verdict after ≡ shown log l) where
+    -- it shows what the first shows, since past the named sizes the first has left what was lent
+    same-again : shown log after ≡ shown log l
     unfolding shown
-    replay-accepted told =
-        rw (
-          front-kept (after .selectors) (l .selectors) selectors _ heapSelectors (ap (λ (j : Judged). j .after .selectors) ran) (copies .selectors) selectors-size,
-          front-kept (after .numbers) (l .numbers) numbers _ cells (ap (λ (j : Judged). j .after .numbers) ran) (copies .numbers) numbers-size,
-          front-kept (after .status) (l .status) status _ cells (ap (λ (j : Judged). j .after .status) ran) (copies .status) status-size,
-        ) (replay-as out out′ (copies .output ∙ accepted-output log out (runBytes logFields log fresh .verdict) (ran-accepted told)))
+    same-again =
+        let end = runBytes logFields log fresh in
+        ap (judged (located log (end .verdict)))
+        (showing-same (end .state) after l
+        (rest-kept (after .pointers) (l .pointers) (end .state .pointers) boardPointers (ap (λ (j : Judged). j .after .pointers) ran) (sizes .pointers) (fit .pointers-fit))
+        (rest-kept (after .selectors) (l .selectors) (end .state .selectors) heapSelectors (ap (λ (j : Judged). j .after .selectors) ran) (sizes .selectors) (fit .selectors-fit))
+        (rest-kept (after .variables) (l .variables) (end .state .variables) boardVariables (ap (λ (j : Judged). j .after .variables) ran) (sizes .variables) (fit .variables-fit))
+        (rest-kept (after .numbers) (l .numbers) (end .state .numbers) cells (ap (λ (j : Judged). j .after .numbers) ran) (sizes .numbers) (fit .numbers-fit))
+        (rest-kept (after .status) (l .status) (end .state .status) cells (ap (λ (j : Judged). j .after .status) ran) (sizes .status) (fit .status-fit)))
+
+    pub replay-accepted : TellsAccepted verdict → (verdict′ : Verdict) (after′ : Lent) → judged verdict′ after′ ≡ shown log after
+        → (out out′ : List ℕ) → length log ≤ length out → Copies log fresh out out′ → replayed verdict′ out′ after′ ≡ written log out l
+    replay-accepted told verdict′ after′ again out out′ room copies =
+        let accepted = ran-accepted log l verdict after ran told in
+        replay-as log l verdict′ after′ (again ∙ same-again) out out′ (copies room accepted ∙ accepted-output log out (runBytes logFields log fresh .verdict) accepted)
 
 -- ---- the verdicts
 module _ (log out : List ℕ) (l : Lent) where

@@ -29,8 +29,8 @@ use Rattle.rules.specs.Effect.{effect}
 use Rattle.rules.specs.Log.{endField, located, offsetOf, runBytes, toldAt}
 use Rattle.rules.specs.Run.{Accepted, Ending, Outcome, Raced, Refused as RefusedAt, liveCount, next}
 use Rattle.rules.specs.State.{State}
-use Rattle.judge.specs.declared.run.Next.{Next}
 use Rattle.judge.specs.declared.run.Next.the-variants.{On, Ended}
+use Rattle.judge.specs.Replays.{IsAccepted}
 use Rattle.judge.specs.Runs.{Following, Onward, ended, followed, nextAfter, nextTold, on, readAfter, runFrom}
 use Rattle.judge.specs.Steps.{Step, stateAfter, stepOf}
 
@@ -158,16 +158,16 @@ pub onward-on : (x : Following) (b at end : ℕ) (t t′ : State) → x ≡ on b
 onward-on x b at end t t′ e h = rw e at h
 
 -- ---- what the code tells of what follows
-pub told-on : (k : Answer) (n : ℕ) (f : Field) (at b : ℕ) → nextTold at (nextAfter k n f at) ≡ On b → (nextAfter k n f at ≡ on b) × (b ≡ at + (headerBytes + lengthOf (f .tag)))
-told-on Go n f at b e = let same : at + (headerBytes + lengthOf (f .tag)) ≡ b = cc in (ap on same, sym same)
+pub told-on : (k : Answer) (n : ℕ) (f : Field) (at b : ℕ) → nextTold at (nextAfter k n f at) ≡ On b → (k ≡ Go) × (nextAfter k n f at ≡ on b) × (b ≡ at + (headerBytes + lengthOf (f .tag)))
+told-on Go n f at b e = let same : at + (headerBytes + lengthOf (f .tag)) ≡ b = cc in (refl, ap on same, sym same)
 told-on (Race p) n f at b e = absurd (let z : _≡_ {A = ℕ} 0 1 = cc in omega arith)
 told-on (Refuse r) n f at b e = absurd (let z : _≡_ {A = ℕ} 0 1 = cc in omega arith)
 
 pub told-ended : (k : Answer) (n : ℕ) (f : Field) (at : ℕ) (v : Verdict) → nextTold at (nextAfter k n f at) ≡ Ended v
-    → (ending : Ending) × (nextAfter k n f at ≡ ended ending) × (v ≡ toldAt at ending) × (endField ending ≡ n)
+    → (ending : Ending) × (nextAfter k n f at ≡ ended ending) × (v ≡ toldAt at ending) × (endField ending ≡ n) × (IsAccepted ending → ⊥)
 told-ended Go n f at v e = absurd (let z : _≡_ {A = ℕ} 0 1 = cc in omega arith)
-told-ended (Race p) n f at v e = let same : toldAt at (Raced n (f .thread) p) ≡ v = cc in (Raced n (f .thread) p, refl, sym same, refl)
-told-ended (Refuse r) n f at v e = let same : toldAt at (RefusedAt r n) ≡ v = cc in (RefusedAt r n, refl, sym same, refl)
+told-ended (Race p) n f at v e = let same : toldAt at (Raced n (f .thread) p) ≡ v = cc in (Raced n (f .thread) p, refl, sym same, refl, λ h. h)
+told-ended (Refuse r) n f at v e = let same : toldAt at (RefusedAt r n) ≡ v = cc in (RefusedAt r n, refl, sym same, refl, λ h. h)
 
 -- ---- where a field begins
 pub offset-next : (n : ℕ) (log : List ℕ) → offsetOf (suc n) log ≡ offsetOf n log + (headerBytes + lengthOf (tagIn (drop (offsetOf n log) log)))

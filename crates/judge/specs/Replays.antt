@@ -1,19 +1,22 @@
--- What writing the replay of a log promises, of what went in and what came out; and the output as it is made, field by field.
+-- What writing the replay of a log promises, of what went in and what came out; and what the run over the log leaves of the output.
 -- Assumes nothing.
-use Prim.Native.Nat.{ℕ, suc, _+_, _<_, _≤_}
+use Prim.Native.Nat.{ℕ, _≤_}
+use lib.Dec.{ltb}
 use lib.ListN.{drop, length, take}
+use mathlib.Core.Bool.{cond}
 use mathlib.Core.List.{List, _++_}
 use mathlib.Core.Path.{_≡_}
+use Rattle.fields.specs.declared.Field.{Field}
 use Rattle.fields.specs.Limits.{logFields}
+use Rattle.fields.specs.Write.{writeField}
 use Rattle.rules.specs.declared.Tally.{Tally}
 use Rattle.rules.specs.declared.Verdict.{Verdict}
 use Rattle.rules.specs.Run.{Ending, Accepted, Raced, Refused}
 use Rattle.rules.specs.Judging.{Lent, lent, showing}
 use Rattle.rules.specs.Log.{located, parse, runBytes}
-use Rattle.rules.specs.Replay.{bytesOf, replay, replayBytes}
+use Rattle.rules.specs.Replay.{bytesOf, replay}
 use Rattle.rules.specs.Replaying.{Replayed, outputAfter, replayLog, replayed}
 use Rattle.rules.specs.State.{State, fresh}
-use Rattle.judge.specs.Runs.{runFrom}
 
 -- the log, the output, the buffers and the tally that went in; the verdict, the tally, the output and the buffers that came out
 abbrev pub Replays : List ℕ → List ℕ → List ℕ → List ℕ → List ℕ → List ℕ → List ℕ → Tally → Verdict → Tally → List ℕ → List ℕ → List ℕ → List ℕ → List ℕ → List ℕ → Type 0
@@ -36,23 +39,10 @@ IsAccepted (Refused r field) = ⊥
 unfoldable pub replayFrom : ℕ → List ℕ → State → List ℕ
 replayFrom n bytes s = bytesOf (replay s (parse n bytes .fields))
 
--- the output as it comes to be: what is written up to a place of the log, the replay from there, and what is held past the log
-unfoldable pub outputFrom : ℕ → List ℕ → ℕ → State → List ℕ → List ℕ
-outputFrom n log at s out = take at out ++ (replayFrom n (drop at log) s ++ drop (length log) out)
+-- the output once a field's copy is written at a place of it, if it reaches there
+unfoldable pub copiedAt : ℕ → Field → List ℕ → List ℕ
+copiedAt at copy out = cond (ltb at (length out)) (take at out ++ writeField copy (drop at out) .output) out
 
--- one field copied, at most n being left after it: the place, the recording's state and the output, before and after.
--- Going on from there gives the outcome and the output that going on from here gives
-pub record Carried (n : ℕ) (log : List ℕ) (at : ℕ) (s : State) (out : List ℕ) (at′ : ℕ) (s′ : State) (out′ : List ℕ) : Type 0 where
-  pub further : at < at′
-  pub within : at′ ≤ length log
-  pub fields : s′ .fields ≡ s .fields + 1
-  pub mallocs : s′ .mallocs ≤ s .mallocs + 1
-  pub outcome : runFrom n (drop at′ log) s′ ≡ runFrom (suc n) (drop at log) s
-  pub output : outputFrom n log at′ s′ out′ ≡ outputFrom (suc n) log at s out
-
--- every field copied: the output after it, and the lists of the heap, which end as the recording's do
-pub record Copies (log out out′ selectors′ numbers′ status′ : List ℕ) : Type 0 where
-  pub output : out′ ≡ replayBytes logFields log ++ drop (length log) out
-  pub selectors : selectors′ ≡ runBytes logFields log fresh .state .selectors
-  pub numbers : numbers′ ≡ runBytes logFields log fresh .state .numbers
-  pub status : status′ ≡ runBytes logFields log fresh .state .status
+-- what the run over a log, from s, leaves of an output with room for the log: where the log is accepted, the replay and what is held past the log
+abbrev pub Copies : List ℕ → State → List ℕ → List ℕ → Type 0
+Copies log s out out′ = length log ≤ length out → IsAccepted (runBytes logFields log s .verdict) → out′ ≡ replayFrom logFields log s ++ drop (length log) out

@@ -4,6 +4,7 @@ ghost use Prim.Native.Nat.{_≤_};
 ghost use lib.ListN.{length};
 ghost use Rattle.fields.specs.Limits.{cells, logBytes, logFields};
 ghost use Rattle.judge.specs.Judges.{Judges, LongEnough, shown};
+ghost use Rattle.judge.specs.Replays.{Copies};
 ghost use Rattle.judge.specs.Runs.{RanTo};
 ghost use Rattle.judge.specs.Steps.{Counts};
 ghost use Rattle.rules.specs.Judging.{judged, lent, longEnough};
@@ -49,7 +50,7 @@ pub fn long_enough(
 }
 
 // The lists of the fresh state, whatever they held.
-pub fn refresh(selectors: &mut [u16], numbers: &mut [u32], status: &mut [u8])
+fn refresh(selectors: &mut [u16], numbers: &mut [u32], status: &mut [u8])
     requires { ⌜ (length (now selectors) ≡ heapSelectors) × ((length (now numbers) ≡ cells) × (length (now status) ≡ cells)) ⌝ }
     ensures { λ _. ⌜ stateOf freshBoard freshTally (now (selectors .exit)) (now (numbers .exit)) (now (status .exit)) ≡ fresh ⌝ }
 {
@@ -58,19 +59,27 @@ pub fn refresh(selectors: &mut [u16], numbers: &mut [u32], status: &mut [u8])
     fill_status(status, Heap::NEVER_USED);
 }
 
-fn run_fresh(log: &[u8], selectors: &mut [u16], numbers: &mut [u32], status: &mut [u8]) -> Ran
+fn run_fresh(
+    log: &[u8],
+    out: &mut [u8],
+    selectors: &mut [u16],
+    numbers: &mut [u32],
+    status: &mut [u8],
+) -> Ran
     requires { ⌜ length (now log) ≤ logBytes ⌝ }
     requires { ⌜ (length (now selectors) ≡ heapSelectors) × ((length (now numbers) ≡ cells) × (length (now status) ≡ cells)) ⌝ }
     ensures { λ r. ⌜ RanTo (now (log .entry)) (runBytes logFields (now (log .entry)) fresh) r (now (selectors .exit)) (now (numbers .exit)) (now (status .exit)) ⌝ }
     ensures { λ r. ⌜ Counts (r .tally) (now (status .exit)) ⌝ }
+    ensures { λ _. ⌜ Copies (now (log .entry)) fresh (now (out .entry)) (now (out .exit)) ⌝ }
 {
     refresh(selectors, numbers, status);
-    run(log, selectors, numbers, status)
+    run(log, out, selectors, numbers, status)
 }
 
 // The run over exactly the named sizes of what is lent. What lies past them stays.
 pub fn run_lent(
     log: &[u8],
+    out: &mut [u8],
     pointers: &mut [u16],
     selectors: &mut [u16],
     variables: &mut [u32],
@@ -80,9 +89,11 @@ pub fn run_lent(
     requires { ⌜ length (now log) ≤ logBytes ⌝ }
     requires { ⌜ LongEnough (now pointers) (now selectors) (now variables) (now numbers) (now status) ⌝ }
     ensures { λ r. ⌜ ((tally : Tally) → judged (r .verdict) (lent (now (pointers .exit)) (now (selectors .exit)) (now (variables .exit)) (now (numbers .exit)) (now (status .exit)) (r .tally)) ≡ shown (now (log .entry)) (lent (now (pointers .entry)) (now (selectors .entry)) (now (variables .entry)) (now (numbers .entry)) (now (status .entry)) tally)) ⌝ }
+    ensures { λ _. ⌜ Copies (now (log .entry)) fresh (now (out .entry)) (now (out .exit)) ⌝ }
 {
     let ran = run_fresh(
         log,
+        out,
         &mut selectors[..Heap::SELECTORS],
         &mut numbers[..Heap::CELLS],
         &mut status[..Heap::CELLS],
@@ -115,7 +126,15 @@ pub fn judge_log(
         };
     }
     if long_enough(pointers, selectors, variables, numbers, status) {
-        return run_lent(log, pointers, selectors, variables, numbers, status);
+        return run_lent(
+            log,
+            &mut [],
+            pointers,
+            selectors,
+            variables,
+            numbers,
+            status,
+        );
     }
     Judged {
         verdict: Verdict::Declined(Refusal::BufferTooShort),

@@ -8,12 +8,10 @@ ghost use Rattle.judge.specs.Replays.{Replays, written};
 ghost use Rattle.rules.specs.Judging.{lent};
 ghost use Rattle.rules.specs.Replaying.{replayed};
 use super::Judged;
-use super::copies::copy_log;
 use super::lent::long_enough;
 use super::lent::run_lent;
 use fields::Log;
 use fields::Refusal;
-use rules::Heap;
 use rules::Tally;
 use rules::Verdict;
 
@@ -31,18 +29,19 @@ fn replay_lent(
     requires { ⌜ LongEnough (now pointers) (now selectors) (now variables) (now numbers) (now status) ⌝ }
     ensures { λ r. ⌜ ((tally : Tally) → replayed (r .verdict) (now (out .exit)) (lent (now (pointers .exit)) (now (selectors .exit)) (now (variables .exit)) (now (numbers .exit)) (now (status .exit)) (r .tally)) ≡ written (now (log .entry)) (now (out .entry)) (lent (now (pointers .entry)) (now (selectors .entry)) (now (variables .entry)) (now (numbers .entry)) (now (status .entry)) tally)) ⌝ }
 {
-    let judged = run_lent(log, pointers, selectors, variables, numbers, status);
+    let judged = run_lent(
+        log,
+        &mut [],
+        pointers,
+        selectors,
+        variables,
+        numbers,
+        status,
+    );
     let verdict = judged.verdict;
     match verdict {
         Verdict::Accepted(_, _, _) => {
-            copy_log(
-                log,
-                out,
-                &mut selectors[..Heap::SELECTORS],
-                &mut numbers[..Heap::CELLS],
-                &mut status[..Heap::CELLS],
-            );
-            judged
+            run_lent(log, out, pointers, selectors, variables, numbers, status)
         }
         Verdict::Raced(_, _, _, _) => judged,
         Verdict::Refused(_, _, _) => judged,

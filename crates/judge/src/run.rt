@@ -1,13 +1,15 @@
-// The run over a log: field by field, until one stops or the log ends.
+// The run over a log: field by field, until one stops or the log ends, each field copied into the output before it takes effect.
 ghost use mathlib.Core.Path.{_≡_};
 ghost use Prim.Native.Nat.{_<_, _≤_};
 ghost use lib.ListN.{drop, length};
 ghost use Rattle.fields.specs.Limits.{logBytes, logFields};
 ghost use Rattle.fields.specs.Read.{placed};
+ghost use Rattle.judge.specs.Replays.{Copies};
 ghost use Rattle.judge.specs.Runs.{RanTo, nextAfter, nextTold, readAfter};
 ghost use Rattle.judge.specs.Steps.{Counts};
 ghost use Rattle.rules.specs.Log.{runBytes};
 ghost use Rattle.rules.specs.State.{freshBoard, freshTally, stateOf};
+use super::copies::copy_field;
 use super::step::step;
 use fields::Field;
 use fields::Log;
@@ -17,6 +19,7 @@ use fields::read_field;
 use fields::value_length;
 use rules::Answer;
 use rules::Board;
+use rules::ReplayCell;
 use rules::Tally;
 use rules::Verdict;
 
@@ -68,10 +71,17 @@ fn read_at(log: &[u8], at: usize, fields: u32) -> Read
 
 // The board is taken back from the step at once and in one place: between a board handed over and one taken back nothing is copied
 // but the board itself.
-pub fn run(log: &[u8], selectors: &mut [u16], numbers: &mut [u32], status: &mut [u8]) -> Ran
+pub fn run(
+    log: &[u8],
+    out: &mut [u8],
+    selectors: &mut [u16],
+    numbers: &mut [u32],
+    status: &mut [u8],
+) -> Ran
     requires { ⌜ (length (now log) ≤ logBytes) × Counts freshTally (now status) ⌝ }
     ensures { λ r. ⌜ RanTo (now (log .entry)) (runBytes logFields (now (log .entry)) (stateOf freshBoard freshTally (now (selectors .entry)) (now (numbers .entry)) (now (status .entry)))) r (now (selectors .exit)) (now (numbers .exit)) (now (status .exit)) ⌝ }
     ensures { λ r. ⌜ Counts (r .tally) (now (status .exit)) ⌝ }
+    ensures { λ _. ⌜ Copies (now (log .entry)) (stateOf freshBoard freshTally (now (selectors .entry)) (now (numbers .entry)) (now (status .entry))) (now (out .entry)) (now (out .exit)) ⌝ }
 {
     let mut board = Board::fresh();
     let mut tally = Tally::fresh();
@@ -80,6 +90,8 @@ pub fn run(log: &[u8], selectors: &mut [u16], numbers: &mut [u32], status: &mut 
         let fields = tally.fields;
         match read_at(log, at, fields) {
             Read::Got(field, _) => {
+                let next = ReplayCell(tally.mallocs as u16);
+                copy_field(field, next, numbers, status, at, out);
                 let stepped = step(field, board, tally, selectors, numbers, status);
                 board = stepped.board;
                 tally = stepped.tally;
@@ -98,9 +110,6 @@ pub fn run(log: &[u8], selectors: &mut [u16], numbers: &mut [u32], status: &mut 
             }
         }
     }
-    ended(
-        Verdict::Accepted(tally.fields, tally.mallocs, tally.live),
-        board,
-        tally,
-    )
+    let verdict = Verdict::Accepted(tally.fields, tally.mallocs, tally.live);
+    ended(verdict, board, tally)
 }

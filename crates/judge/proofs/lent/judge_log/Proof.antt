@@ -13,11 +13,14 @@ returns c = judged-too-long (c .before .before .before .before .before .before .
 long-enough-requires : tie.Need-long-enough-requires
 long-enough-requires c κs = search needs
 
+slice-aggregate-run-lent : tie.Need-slice-aggregate-run-lent
+slice-aggregate-run-lent c = search needs
+
 run-lent-requires : tie.Need-run-lent-requires
 run-lent-requires c κs =
-    let a = c .before .before .before .before .before .before .before .before .before .before .before .before .before .before .before .before .before .before .before .args in
-    let enough = sym (c .before .before .before .before .before .before .long-enough .ensures (a .tally)) ∙ c .before .before .before .before .before .if2 .taken in
-    (c .before .before .before .before .before .before .before .before .before .before .before .before .if1 .left, long-enough (a .pointers .now) (a .selectors .now) (a .variables .now) (a .numbers .now) (a .status .now) (a .tally) enough)
+    let a = c .before .before .before .before .before .before .before .before .before .before .before .before .before .before .before .before .before .before .before .before .args in
+    let enough = sym (c .before .before .before .before .before .before .before .long-enough .ensures (a .tally)) ∙ c .before .before .before .before .before .before .if2 .taken in
+    (c .before .before .before .before .before .before .before .before .before .before .before .before .before .if1 .left, long-enough (a .pointers .now) (a .selectors .now) (a .variables .now) (a .numbers .now) (a .status .now) (a .tally) enough)
 
 same-length : tie.Need-same-length
 same-length c = search needs
@@ -36,11 +39,11 @@ same-length-5 c = search needs
 
 returns-2 : tie.Need-returns-2
 returns-2 c =
-    let a = c .before .before .before .before .before .before .before .before .before .before .before .before .before .before .before .before .before .before .before .before .before .before .before .before .before .before .before .before .before .before .args in
+    let a = c .before .before .before .before .before .before .before .before .before .before .before .before .before .before .before .before .before .before .before .before .before .before .before .before .before .before .before .before .before .before .before .before .args in
     let l = lent (a .pointers .now) (a .selectors .now) (a .variables .now) (a .numbers .now) (a .status .now) (a .tally) in
-    let enough = sym (c .before .before .before .before .before .before .before .before .before .before .before .before .before .before .before .before .before .long-enough .ensures (a .tally)) ∙ c .before .before .before .before .before .before .before .before .before .before .before .before .before .before .before .before .if2 .taken in
-    c .before .before .before .before .before .before .before .before .before .before .run-lent .ensures (a .tally)
-    ∙ judged-shown (a .log .now) l (le-leb _ _ (c .before .before .before .before .before .before .before .before .before .before .before .before .before .before .before .before .before .before .before .before .before .before .before .if1 .left)) enough
+    let enough = sym (c .before .before .before .before .before .before .before .before .before .before .before .before .before .before .before .before .before .before .before .long-enough .ensures (a .tally)) ∙ c .before .before .before .before .before .before .before .before .before .before .before .before .before .before .before .before .before .before .if2 .taken in
+    c .before .before .before .before .before .before .before .before .before .before .before .run-lent .ensures .0 (a .tally)
+    ∙ judged-shown (a .log .now) l (le-leb _ _ (c .before .before .before .before .before .before .before .before .before .before .before .before .before .before .before .before .before .before .before .before .before .before .before .before .before .if1 .left)) enough
 
 same-length-6 : tie.Need-same-length-6
 same-length-6 c = search needs
@@ -69,6 +72,7 @@ judge-log-spec =
     (tie.spec
     returns
     long-enough-requires
+    slice-aggregate-run-lent
     run-lent-requires
     same-length
     same-length-2

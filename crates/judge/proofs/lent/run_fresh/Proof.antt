@@ -8,7 +8,7 @@ refresh-requires : tie.Need-refresh-requires
 refresh-requires c κs = search needs
 
 run-requires : tie.Need-run-requires
-run-requires c κs = (c .before .before .before .before .before .before .before .before .before .before .before .before .before .before .before .before .before .pre .0, fresh-counts _ _ _ (c .before .before .before .before .before .before .before .before .before .refresh .ensures))
+run-requires c κs = (c .before .before .before .before .before .before .before .before .before .before .before .before .before .before .before .before .before .before .before .pre .0, fresh-counts _ _ _ (c .before .before .before .before .before .before .before .before .before .before .refresh .ensures))
 
 same-length : tie.Need-same-length
 same-length c = search needs
@@ -19,10 +19,20 @@ same-length-2 c = search needs
 same-length-3 : tie.Need-same-length-3
 same-length-3 c = search needs
 
+same-length-4 : tie.Need-same-length-4
+same-length-4 c = search needs
+
 returns : tie.Need-returns
-returns c = (rw (c .before .before .before .before .before .before .before .before .before .before .before .before .before .before .before .before .refresh .ensures) at (c .before .before .before .before .before .before .run .ensures .0), c .before .before .before .before .before .before .run .ensures .1)
+returns c = rw (c .before .before .before .before .before .before .before .before .before .before .before .before .before .before .before .before .before .before .before .refresh .ensures) at (c .before .before .before .before .before .before .before .before .run .ensures)
 
 pub run-fresh-spec : {M : Type 1} → statement M
 run-fresh-spec =
     tie.close
-    (tie.spec refresh-requires run-requires same-length same-length-2 same-length-3 returns)
+    (tie.spec
+    refresh-requires
+    run-requires
+    same-length
+    same-length-2
+    same-length-3
+    same-length-4
+    returns)

@@ -1,12 +1,12 @@
 -- `judge::replay::replay_lent` meets its contract.
-use Rattle.judge.proofs.Replaying.{ran-accepted, replay-accepted, replay-kept}
+use Rattle.judge.proofs.Replaying.{replay-accepted, replay-kept, still-enough}
 use Rattle.rules.specs.Judging.{lent}
 use borrow.Author.Needs.{needs}
-use lib.Seq.{length-take-le}
-use mathlib.Core.Path.{_∙_, sym}
-use native.Mathlib.Omega.{arith}
 use Rattle.judge.proofs.replay.replay_lent.Statement.{statement}
 use Rattle.judge.proofs.replay.replay_lent.Tie as tie
+
+slice-aggregate-run-lent : tie.Need-slice-aggregate-run-lent
+slice-aggregate-run-lent c = search needs
 
 run-lent-requires : tie.Need-run-lent-requires
 run-lent-requires c κs = search needs
@@ -14,34 +14,14 @@ run-lent-requires c κs = search needs
 enum-told : tie.Need-enum-told
 enum-told c = search needs
 
-slice-relend-prefix-copy-log : tie.Need-slice-relend-prefix-copy-log
-slice-relend-prefix-copy-log c = search needs
-
-slice-aggregate-copy-log : tie.Need-slice-aggregate-copy-log
-slice-aggregate-copy-log c = sym (length-take-le 2048 (c .before .before .before .before .before .before .before .before .before .before .before .before .before .before .run-lent .last .1 .1 .0) (omega (arith, c .before .before .before .before .before .before .before .before .before .before .before .before .before .before .before .before .before .before .before .before .before .before .before .before .before .before .before .pre .1 .selectors-fit)))
-
-slice-relend-prefix-copy-log-2 : tie.Need-slice-relend-prefix-copy-log-2
-slice-relend-prefix-copy-log-2 c = search needs
-
-slice-aggregate-copy-log-2 : tie.Need-slice-aggregate-copy-log-2
-slice-aggregate-copy-log-2 c = sym (length-take-le 1024 (c .before .before .before .before .before .before .before .before .before .before .before .before .before .before .before .run-lent .last .1 .1 .1 .1 .0) (omega (arith, c .before .before .before .before .before .before .before .before .before .before .before .before .before .before .before .before .before .before .before .before .before .before .before .before .before .before .before .before .pre .1 .numbers-fit)))
-
-slice-relend-prefix-copy-log-3 : tie.Need-slice-relend-prefix-copy-log-3
-slice-relend-prefix-copy-log-3 c = search needs
-
-slice-aggregate-copy-log-3 : tie.Need-slice-aggregate-copy-log-3
-slice-aggregate-copy-log-3 c = sym (length-take-le 1024 (c .before .before .before .before .before .before .before .before .before .before .before .before .before .before .before .before .run-lent .last .1 .1 .1 .1 .1 .0) (omega (arith, c .before .before .before .before .before .before .before .before .before .before .before .before .before .before .before .before .before .before .before .before .before .before .before .before .before .before .before .before .before .pre .1 .status-fit)))
-
-copy-log-requires : tie.Need-copy-log-requires
-copy-log-requires c κs =
-    let start = c .before .before .before .before .before .before .before .before .before .before .before .before .before .before .before .before .before .before .before .before .before .before .before .before .before .before .before .before .before in
-    let ran = c .before .before .before .before .before .before .before .before .before .before .before .before .before .before .before .before .run-lent in
-    let lists = ran .last .1 in
-    let accepted = ran-accepted (start .args .log .now) _ (ran .result .verdict) _ (ran .ensures (ran .result .tally)) (rw (c .before .before .before .before .enum-told .given .1) tt) in
-    let selectors = length-take-le 2048 (lists .1 .0) (omega (arith, start .pre .1 .selectors-fit)) in
-    let numbers = length-take-le 1024 (lists .1 .1 .1 .0) (omega (arith, start .pre .1 .numbers-fit)) in
-    let status = length-take-le 1024 (lists .1 .1 .1 .1 .0) (omega (arith, start .pre .1 .status-fit)) in
-    (start .pre .0, ((selectors, (numbers, status)), accepted))
+run-lent-requires-2 : tie.Need-run-lent-requires-2
+run-lent-requires-2 c κs =
+    let start = c .before .before .before .before .before .before .before .before .before .before .before .before .before .before .before .before .before .before .before .before .before .before .before .before .before .before .before .before .before .before .before .before .before in
+    let a = start .args in
+    let l = lent (a .pointers .now) (a .selectors .now) (a .variables .now) (a .numbers .now) (a .status .now) (c .before .before .before .before .before .before .before .before .before .before .before .before .before .before .before .before .before .before .before .run-lent .result .tally) in
+    let lists = c .before .before .before .before .before .before .before .before .before .before .before .before .before .before .before .before .before .before .before .run-lent .last .1 .1 in
+    let after = lent (lists .0) (lists .1 .0) (lists .1 .1 .0) (lists .1 .1 .1 .0) (lists .1 .1 .1 .1 .0) (c .before .before .before .before .before .before .before .before .before .before .before .before .before .before .before .before .before .before .before .run-lent .result .tally) in
+    (start .pre .0 .0, still-enough l after (start .pre .1) (record { pointers = c .before .before .before .before .before .before .before .before .before .before .before .before .before .before .before .before .before .pointers .given; selectors = c .before .before .before .before .before .before .before .before .before .before .before .before .before .before .before .selectors .given; variables = c .before .before .before .before .before .before .before .before .before .before .before .before .before .variables .given; numbers = c .before .before .before .before .before .before .before .before .before .before .before .numbers .given; status = c .before .before .before .before .before .before .before .before .before .status .given }))
 
 enum-told-2 : tie.Need-enum-told-2
 enum-told-2 c = search needs
@@ -72,15 +52,13 @@ same-length-6 c = search needs
 
 returns : tie.Need-returns
 returns c =
-    let start = c .before .before .before .before .before .before .before .before .before .before .before .before .before .before .before .before .before .before .before .before .before .before .before .before .before .before .before .before .before .before .before .before .before .before .before .before .before .before in
+    let start = c .before .before .before .before .before .before .before .before .before .before .before .before .before .before .before .before .before .before .before .before .before .before .before .before .before .before .before .before .before .before .before .before .before .before .before .before .before .before .before .before .before .before .before .before .before .before in
     let a = start .args in
-    let ran = c .before .before .before .before .before .before .before .before .before .before .before .before .before .before .before .before .before .before .before .before .before .before .before .before .before .run-lent in
-    let lists = ran .last .1 in
+    let ran = c .before .before .before .before .before .before .before .before .before .before .before .before .before .before .before .before .before .before .before .before .before .before .before .before .before .before .before .before .before .before .before .before .run-lent in
+    let again = c .before .before .before .before .before .before .before .before .before .before .before .before .run-lent2 in
+    let lists = ran .last .1 .1 in
     let after = lent (lists .0) (lists .1 .0) (lists .1 .1 .0) (lists .1 .1 .1 .0) (lists .1 .1 .1 .1 .0) (ran .result .tally) in
-    let selectors = c .before .before .before .before .before .selectors2 .given .0 ∙ length-take-le 2048 (lists .1 .0) (omega (arith, start .pre .1 .selectors-fit)) in
-    let numbers = c .before .before .before .numbers2 .given .0 ∙ length-take-le 1024 (lists .1 .1 .1 .0) (omega (arith, start .pre .1 .numbers-fit)) in
-    let status = c .before .status2 .given .0 ∙ length-take-le 1024 (lists .1 .1 .1 .1 .0) (omega (arith, start .pre .1 .status-fit)) in
-    λ tally. replay-accepted (a .log .now) _ (ran .result .verdict) after (ran .ensures tally) (a .out .now) _ _ _ _ (c .before .before .before .before .before .before .before .before .copy-log .ensures) selectors numbers status (rw (c .before .before .before .before .before .before .before .before .before .before .before .before .before .enum-told .given .1) tt)
+    λ tally. replay-accepted (lent (a .pointers .now) (a .selectors .now) (a .variables .now) (a .numbers .now) (a .status .now) tally) after (start .pre .1) (record { pointers = c .before .before .before .before .before .before .before .before .before .before .before .before .before .before .before .before .before .before .before .before .before .before .before .before .before .before .before .before .before .before .pointers .given; selectors = c .before .before .before .before .before .before .before .before .before .before .before .before .before .before .before .before .before .before .before .before .before .before .before .before .before .before .before .before .selectors .given; variables = c .before .before .before .before .before .before .before .before .before .before .before .before .before .before .before .before .before .before .before .before .before .before .before .before .before .before .variables .given; numbers = c .before .before .before .before .before .before .before .before .before .before .before .before .before .before .before .before .before .before .before .before .before .before .before .before .numbers .given; status = c .before .before .before .before .before .before .before .before .before .before .before .before .before .before .before .before .before .before .before .before .before .before .status .given }) (a .log .now) _ (ran .ensures .0 tally) (rw (c .before .before .before .before .before .before .before .before .before .before .before .before .before .before .before .before .before .before .before .enum-told .given .1) tt) _ _ (again .ensures .0 (ran .result .tally)) (a .out .now) _ (start .pre .0 .1) (again .ensures .1)
 
 same-length-7 : tie.Need-same-length-7
 same-length-7 c = search needs
@@ -99,9 +77,9 @@ same-length-11 c = search needs
 
 returns-2 : tie.Need-returns-2
 returns-2 c =
-    let a = c .before .before .before .before .before .before .before .before .before .before .before .before .before .before .before .before .before .before .before .before .before .before .before .before .before .args in
-    let ran = c .before .before .before .before .before .before .before .before .before .before .before .before .run-lent in
-    λ tally. replay-kept (a .log .now) _ (ran .result .verdict) _ (ran .ensures tally) (a .out .now) (λ h. rw (c .enum-told2 .given .1) at h)
+    let a = c .before .before .before .before .before .before .before .before .before .before .before .before .before .before .before .before .before .before .before .before .before .before .before .before .before .before .before .args in
+    let ran = c .before .before .before .before .before .before .before .before .before .before .before .before .before .run-lent in
+    λ tally. replay-kept (a .log .now) _ (ran .result .verdict) _ (ran .ensures .0 tally) (a .out .now) (λ h. rw (c .enum-told2 .given .1) at h)
 
 same-length-12 : tie.Need-same-length-12
 same-length-12 c = search needs
@@ -120,9 +98,9 @@ same-length-16 c = search needs
 
 returns-3 : tie.Need-returns-3
 returns-3 c =
-    let a = c .before .before .before .before .before .before .before .before .before .before .before .before .before .before .before .before .before .before .before .before .before .before .before .before .before .args in
-    let ran = c .before .before .before .before .before .before .before .before .before .before .before .before .run-lent in
-    λ tally. replay-kept (a .log .now) _ (ran .result .verdict) _ (ran .ensures tally) (a .out .now) (λ h. rw (c .enum-told3 .given .1) at h)
+    let a = c .before .before .before .before .before .before .before .before .before .before .before .before .before .before .before .before .before .before .before .before .before .before .before .before .before .before .before .args in
+    let ran = c .before .before .before .before .before .before .before .before .before .before .before .before .before .run-lent in
+    λ tally. replay-kept (a .log .now) _ (ran .result .verdict) _ (ran .ensures .0 tally) (a .out .now) (λ h. rw (c .enum-told3 .given .1) at h)
 
 same-length-17 : tie.Need-same-length-17
 same-length-17 c = search needs
@@ -141,23 +119,18 @@ same-length-21 c = search needs
 
 returns-4 : tie.Need-returns-4
 returns-4 c =
-    let a = c .before .before .before .before .before .before .before .before .before .before .before .before .before .before .before .before .before .before .before .before .before .before .before .before .before .args in
-    let ran = c .before .before .before .before .before .before .before .before .before .before .before .before .run-lent in
-    λ tally. replay-kept (a .log .now) _ (ran .result .verdict) _ (ran .ensures tally) (a .out .now) (λ h. rw (c .enum-told4 .given .1) at h)
+    let a = c .before .before .before .before .before .before .before .before .before .before .before .before .before .before .before .before .before .before .before .before .before .before .before .before .before .before .before .args in
+    let ran = c .before .before .before .before .before .before .before .before .before .before .before .before .before .run-lent in
+    λ tally. replay-kept (a .log .now) _ (ran .result .verdict) _ (ran .ensures .0 tally) (a .out .now) (λ h. rw (c .enum-told4 .given .1) at h)
 
 pub replay-lent-spec : {M : Type 1} → statement M
 replay-lent-spec =
     tie.close
     (tie.spec
+    slice-aggregate-run-lent
     run-lent-requires
     enum-told
-    slice-relend-prefix-copy-log
-    slice-aggregate-copy-log
-    slice-relend-prefix-copy-log-2
-    slice-aggregate-copy-log-2
-    slice-relend-prefix-copy-log-3
-    slice-aggregate-copy-log-3
-    copy-log-requires
+    run-lent-requires-2
     enum-told-2
     enum-told-3
     enum-told-4

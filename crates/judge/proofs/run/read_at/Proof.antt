@@ -1,5 +1,4 @@
 -- `judge::run::read_at` meets its contract.
-use Rattle.fields.specs.Read.{placed}
 use Rattle.judge.proofs.Running.{part}
 use borrow.Author.Needs.{needs}
 use borrow.Author.Tests.{le-ltb, lt-ltb}

@@ -1,7 +1,8 @@
 -- `judge::run::run` meets its contract. The invariant: the run of what is left, from what is held, gives what the whole run gives, the place is
--- the offset of the next field, and the tally keeps the count of the live cells.
+-- the offset of the next field, the tally keeps the count of the live cells, and the output holds the copies of the fields before.
 use Prim.Native.Nat.{_-_, _≤_}
 use Rattle.fields.proofs.Framing.{placed-got, placed-refused}
+use Rattle.judge.proofs.Copied.{Underway, copied-all, copied-none, underway-on}
 use Rattle.judge.proofs.Running.{loop-end, loop-ended, loop-on, loop-stopped, offset-on, onward-on, read-got, run-opened, told-ended, told-on, told-outcome, turn-got, turn-onward}
 use Rattle.judge.specs.Runs.{runFrom}
 use Rattle.judge.specs.Steps.{Counts}
@@ -16,15 +17,16 @@ use Rattle.judge.proofs.run.run.Statement.{statement}
 use Rattle.judge.proofs.run.run.Tie as tie
 
 abbrev Inv-loop : tie.InvT-loop
-Inv-loop log selectors₀ numbers₀ status₀ board₀ tally₀ at₀ selectors numbers status board tally at =
-    ((at ≤ length log) × ((length selectors ≡ length selectors₀) × ((length numbers ≡ length numbers₀) × (length status ≡ length status₀))))
+Inv-loop log out₀ selectors₀ numbers₀ status₀ board₀ tally₀ at₀ out selectors numbers status board tally at =
+    ((at ≤ length log) × ((length out ≡ length out₀) × ((length selectors ≡ length selectors₀) × ((length numbers ≡ length numbers₀) × (length status ≡ length status₀)))))
     × (((tally .fields ≤ 4096) × (tally .mallocs ≤ tally .fields))
     × (runFrom (4096 - tally .fields) (drop at log) (stateOf board tally selectors numbers status) ≡ runFrom 4096 log (stateOf freshBoard freshTally selectors₀ numbers₀ status₀)))
     × Counts tally status
     × (at ≡ offsetOf (tally .fields) log)
+    × Underway log out₀ (stateOf freshBoard freshTally selectors₀ numbers₀ status₀) (4096 - tally .fields) at (stateOf board tally selectors numbers status) out
 
 abbrev μ-loop : tie.MeasureT-loop
-μ-loop log selectors₀ numbers₀ status₀ board₀ tally₀ at₀ selectors numbers status board tally at = length log - at
+μ-loop log out₀ selectors₀ numbers₀ status₀ board₀ tally₀ at₀ out selectors numbers status board tally at = length log - at
 
 fresh-requires : tie.Need-fresh-requires Inv-loop μ-loop
 fresh-requires c κs = search needs
@@ -33,58 +35,65 @@ fresh-requires-2 : tie.Need-fresh-requires-2 Inv-loop μ-loop
 fresh-requires-2 c κs = search needs
 
 loop-holds : tie.Need-loop-holds Inv-loop μ-loop
-loop-holds c = rw (c .fresh2 .ensures, c .before .fresh .ensures) ((omega arith, (refl, (refl, refl))), ((omega arith, omega arith), refl), c .before .before .before .before .before .before .pre .1, refl)
+loop-holds c = rw (c .fresh2 .ensures, c .before .fresh .ensures) ((omega arith, (refl, (refl, (refl, refl)))), ((omega arith, omega arith), refl), c .before .before .before .before .before .before .before .pre .1, refl, λ room. refl)
 
 read-at-requires : tie.Need-read-at-requires Inv-loop μ-loop
-read-at-requires c κs = (c .loop-test .taken, c .before .before .before .before .before .before .before .before .pre .0)
+read-at-requires c κs = (c .loop-test .taken, c .before .before .before .before .before .before .before .before .before .pre .0)
 
 enum-known-field : tie.Need-enum-known-field Inv-loop μ-loop
 enum-known-field c = search needs
 
+cast-t22 : tie.Need-cast-t22 Inv-loop μ-loop
+cast-t22 c = search needs
+
+copy-field-requires : tie.Need-copy-field-requires Inv-loop μ-loop
+copy-field-requires c κs = search needs
+
 step-requires : tie.Need-step-requires Inv-loop μ-loop
 step-requires c κs =
-    let h = c .before .before .before .before .before .before .before .before .loop .inv in
+    let h = c .before .before .before .before .before .before .before .before .before .before .before .before .before .before .before .loop .inv in
     ((h .1 .0 .0, omega (arith, h .1 .0 .0, h .1 .0 .1)), h .2)
 
 next-after-requires : tie.Need-next-after-requires Inv-loop μ-loop
-next-after-requires c κs = omega (arith, c .before .before .before .before .before .before .before .before .before .before .before .before .before .before .before .before .loop-test .taken, c .before .before .before .before .before .before .before .before .before .before .before .before .before .before .before .before .before .before .before .before .before .before .before .before .pre .0)
+next-after-requires c κs = omega (arith, c .before .before .before .before .before .before .before .before .before .before .before .before .before .before .before .before .before .before .before .before .before .before .before .loop-test .taken, c .before .before .before .before .before .before .before .before .before .before .before .before .before .before .before .before .before .before .before .before .before .before .before .before .before .before .before .before .before .before .before .before .pre .0)
 
 enum-known-place : tie.Need-enum-known-place Inv-loop μ-loop
 enum-known-place c = search needs
 
 loop-less : tie.Need-loop-less Inv-loop μ-loop
 loop-less c =
-    let h = c .before .before .before .before .before .before .before .before .before .before .before .before .before .before .before .before .before .before .before .before .before .loop in
-    let log = c .before .before .before .before .before .before .before .before .before .before .before .before .before .before .before .before .before .before .before .before .before .before .before .before .before .before .before .before .args .log .now in
+    let h = c .before .before .before .before .before .before .before .before .before .before .before .before .before .before .before .before .before .before .before .before .before .before .before .before .before .before .before .before .loop in
+    let log = c .before .before .before .before .before .before .before .before .before .before .before .before .before .before .before .before .before .before .before .before .before .before .before .before .before .before .before .before .before .before .before .before .before .before .before .before .args .log .now in
     let s = stateOf (h .board) (h .tally) (h .selectors) (h .numbers) (h .status) in
-    let within = c .before .before .before .before .before .before .before .before .before .before .before .before .before .before .before .before .before .before .before .before .loop-test .taken in
-    let got = c .before .before .before .before .before .before .before .before .before .before .before .before .before .before .before .before .before .field .given in
+    let within = c .before .before .before .before .before .before .before .before .before .before .before .before .before .before .before .before .before .before .before .before .before .before .before .before .before .before .before .loop-test .taken in
+    let got = c .before .before .before .before .before .before .before .before .before .before .before .before .before .before .before .before .before .before .before .before .before .before .before .before .field .given in
     let f = got .0 .0 in
-    let read = read-got (h .tally .fields) (drop (h .at) log) f (placed-got (h .at) _ f _ (sym (c .before .before .before .before .before .before .before .before .before .before .before .before .before .before .before .before .before .before .before .read-at .ensures) ∙ got .1)) in
+    let read = read-got (h .tally .fields) (drop (h .at) log) f (placed-got (h .at) _ f _ (sym (c .before .before .before .before .before .before .before .before .before .before .before .before .before .before .before .before .before .before .before .before .before .before .before .before .before .before .read-at .ensures) ∙ got .1)) in
     let step = c .before .before .before .before .before .before .before .before .before .before .before .before .step in
     let on = told-on (step .result .answer) (h .tally .fields) f (h .at) _ (sym (c .before .before .before .next-after .ensures) ∙ c .before .place .given .1) in
-    let o = onward-on _ _ (h .at) (length log) s _ (on .0) (turn-onward log (h .at) within f (read .1) s _ (step .ensures .0)) in
+    let o = onward-on _ _ (h .at) (length log) s _ (on .1) (turn-onward log (h .at) within f (read .1) s _ (step .ensures .0)) in
     omega (arith, o .0 .0, o .0 .1)
 
 loop-again : tie.Need-loop-again Inv-loop μ-loop
 loop-again c =
-    let h = c .before .before .before .before .before .before .before .before .before .before .before .before .before .before .before .before .before .before .before .before .before .loop in
-    let log = c .before .before .before .before .before .before .before .before .before .before .before .before .before .before .before .before .before .before .before .before .before .before .before .before .before .before .before .before .args .log .now in
+    let h = c .before .before .before .before .before .before .before .before .before .before .before .before .before .before .before .before .before .before .before .before .before .before .before .before .before .before .before .before .loop in
+    let log = c .before .before .before .before .before .before .before .before .before .before .before .before .before .before .before .before .before .before .before .before .before .before .before .before .before .before .before .before .before .before .before .before .before .before .before .before .args .log .now in
     let s = stateOf (h .board) (h .tally) (h .selectors) (h .numbers) (h .status) in
-    let within = c .before .before .before .before .before .before .before .before .before .before .before .before .before .before .before .before .before .before .before .before .loop-test .taken in
-    let got = c .before .before .before .before .before .before .before .before .before .before .before .before .before .before .before .before .before .field .given in
+    let within = c .before .before .before .before .before .before .before .before .before .before .before .before .before .before .before .before .before .before .before .before .before .before .before .before .before .before .before .loop-test .taken in
+    let got = c .before .before .before .before .before .before .before .before .before .before .before .before .before .before .before .before .before .before .before .before .before .before .before .before .field .given in
     let f = got .0 .0 in
-    let read = read-got (h .tally .fields) (drop (h .at) log) f (placed-got (h .at) _ f _ (sym (c .before .before .before .before .before .before .before .before .before .before .before .before .before .before .before .before .before .before .before .read-at .ensures) ∙ got .1)) in
+    let read = read-got (h .tally .fields) (drop (h .at) log) f (placed-got (h .at) _ f _ (sym (c .before .before .before .before .before .before .before .before .before .before .before .before .before .before .before .before .before .before .before .before .before .before .before .before .before .before .read-at .ensures) ∙ got .1)) in
     let step = c .before .before .before .before .before .before .before .before .before .before .before .before .step in
     let on = told-on (step .result .answer) (h .tally .fields) f (h .at) _ (sym (c .before .before .before .next-after .ensures) ∙ c .before .place .given .1) in
-    let o = onward-on _ _ (h .at) (length log) s _ (on .0) (turn-onward log (h .at) within f (read .1) s _ (step .ensures .0)) in (
-      (o .0 .1, search (needs, h .inv .0 .1)),
+    let o = onward-on _ _ (h .at) (length log) s _ (on .1) (turn-onward log (h .at) within f (read .1) s _ (step .ensures .0)) in (
+      (o .0 .1, (c .before .before .before .before .before .before .before .before .before .before .before .before .before .before .before .before .before .out .given ∙ h .inv .0 .1 .0, (c .before .before .before .before .before .before .before .before .before .before .before .selectors .given ∙ h .inv .0 .1 .1 .0, (c .before .before .before .before .before .before .before .before .before .numbers .given ∙ h .inv .0 .1 .1 .1 .0, c .before .before .before .before .before .before .before .status .given ∙ h .inv .0 .1 .1 .1 .1)))),
       (
         (omega (arith, o .1 .0, read .0), omega (arith, o .1 .0, o .1 .1, h .inv .1 .0 .1)),
-        loop-on log (h .at) within _ s _ _ _ _ (turn-got log (h .at) within f (read .1) s _ (step .ensures .0)) (omega (arith, o .1 .0, read .0)) (h .inv .1 .1) _ (on .0),
+        loop-on log (h .at) within _ s _ _ _ _ (turn-got log (h .at) within f (read .1) s _ (step .ensures .0)) (omega (arith, o .1 .0, read .0)) (h .inv .1 .1) _ (on .1),
       ),
       step .ensures .1,
-      offset-on (h .tally .fields) _ log (h .at) _ f (h .inv .3) (read .1) (on .1) (o .1 .0),
+      offset-on (h .tally .fields) _ log (h .at) _ f (h .inv .3) (read .1) (on .2) (o .1 .0),
+      underway-on log _ _ _ _ (h .at) s (h .out) (h .inv .4) (h .inv .0 .1 .0) (omega (arith, o .1 .0, read .0)) within f (read .1) _ (step .ensures .0) (on .0) _ (on .2) _ (c .before .before .before .before .before .before .before .before .before .before .before .before .before .before .before .before .before .before .copy-field .ensures (h .board) (h .tally) (h .selectors)),
     )
 
 enum-known-verdict : tie.Need-enum-known-verdict Inv-loop μ-loop
@@ -94,28 +103,31 @@ ended-requires : tie.Need-ended-requires Inv-loop μ-loop
 ended-requires c κs = search needs
 
 same-length : tie.Need-same-length Inv-loop μ-loop
-same-length c = search (needs, c .before .before .before .before .before .before .before .before .before .before .before .before .before .before .before .before .before .before .before .before .before .before .loop .inv .0 .1 .0)
+same-length c = c .before .before .before .before .before .before .before .before .before .before .before .before .before .before .before .before .before .before .out .given ∙ c .before .before .before .before .before .before .before .before .before .before .before .before .before .before .before .before .before .before .before .before .before .before .before .before .before .before .before .before .before .loop .inv .0 .1 .0
 
 same-length-2 : tie.Need-same-length-2 Inv-loop μ-loop
-same-length-2 c = search (needs, c .before .before .before .before .before .before .before .before .before .before .before .before .before .before .before .before .before .before .before .before .before .before .loop .inv .0 .1 .1 .0)
+same-length-2 c = c .before .before .before .before .before .before .before .before .before .before .before .before .selectors .given ∙ c .before .before .before .before .before .before .before .before .before .before .before .before .before .before .before .before .before .before .before .before .before .before .before .before .before .before .before .before .before .loop .inv .0 .1 .1 .0
 
 same-length-3 : tie.Need-same-length-3 Inv-loop μ-loop
-same-length-3 c = search (needs, c .before .before .before .before .before .before .before .before .before .before .before .before .before .before .before .before .before .before .before .before .before .before .loop .inv .0 .1 .1 .1)
+same-length-3 c = c .before .before .before .before .before .before .before .before .before .before .numbers .given ∙ c .before .before .before .before .before .before .before .before .before .before .before .before .before .before .before .before .before .before .before .before .before .before .before .before .before .before .before .before .before .loop .inv .0 .1 .1 .1 .0
+
+same-length-4 : tie.Need-same-length-4 Inv-loop μ-loop
+same-length-4 c = c .before .before .before .before .before .before .before .before .status .given ∙ c .before .before .before .before .before .before .before .before .before .before .before .before .before .before .before .before .before .before .before .before .before .before .before .before .before .before .before .before .before .loop .inv .0 .1 .1 .1 .1
 
 returns : tie.Need-returns Inv-loop μ-loop
 returns c =
-    let h = c .before .before .before .before .before .before .before .before .before .before .before .before .before .before .before .before .before .before .before .before .before .before .loop in
-    let log = c .before .before .before .before .before .before .before .before .before .before .before .before .before .before .before .before .before .before .before .before .before .before .before .before .before .before .before .before .before .args .log .now in
+    let h = c .before .before .before .before .before .before .before .before .before .before .before .before .before .before .before .before .before .before .before .before .before .before .before .before .before .before .before .before .before .loop in
+    let log = c .before .before .before .before .before .before .before .before .before .before .before .before .before .before .before .before .before .before .before .before .before .before .before .before .before .before .before .before .before .before .before .before .before .before .before .before .before .args .log .now in
     let s = stateOf (h .board) (h .tally) (h .selectors) (h .numbers) (h .status) in
-    let within = c .before .before .before .before .before .before .before .before .before .before .before .before .before .before .before .before .before .before .before .before .before .loop-test .taken in
-    let got = c .before .before .before .before .before .before .before .before .before .before .before .before .before .before .before .before .before .before .field .given in
+    let within = c .before .before .before .before .before .before .before .before .before .before .before .before .before .before .before .before .before .before .before .before .before .before .before .before .before .before .before .before .loop-test .taken in
+    let got = c .before .before .before .before .before .before .before .before .before .before .before .before .before .before .before .before .before .before .before .before .before .before .before .before .before .field .given in
     let f = got .0 .0 in
-    let read = read-got (h .tally .fields) (drop (h .at) log) f (placed-got (h .at) _ f _ (sym (c .before .before .before .before .before .before .before .before .before .before .before .before .before .before .before .before .before .before .before .before .read-at .ensures) ∙ got .1)) in
+    let read = read-got (h .tally .fields) (drop (h .at) log) f (placed-got (h .at) _ f _ (sym (c .before .before .before .before .before .before .before .before .before .before .before .before .before .before .before .before .before .before .before .before .before .before .before .before .before .before .before .read-at .ensures) ∙ got .1)) in
     let step = c .before .before .before .before .before .before .before .before .before .before .before .before .before .step in
     let end = told-ended (step .result .answer) (h .tally .fields) f (h .at) _ (sym (c .before .before .before .before .next-after .ensures) ∙ c .before .before .verdict .given .1) in
     let ran = loop-ended log (h .at) within _ s _ _ _ (4095 - h .tally .fields) (turn-got log (h .at) within f (read .1) s _ (step .ensures .0)) (omega (arith, read .0)) (h .inv .1 .1) _ (end .1) ∙ run-opened _ _ _ in
     let told = told-outcome log _ (end .0) _ (h .at) (h .inv .3 ∙ ap (λ n. offsetOf n log) (sym (end .3))) ran in
-    rw (c .ended .ensures) ((end .2 ∙ told .0, told .1), step .ensures .1)
+    rw (c .ended .ensures) ((end .2 ∙ told .0, told .1), (step .ensures .1, copied-none log _ _ _ (end .0) _ ran (end .4)))
 
 enum-known-why : tie.Need-enum-known-why Inv-loop μ-loop
 enum-known-why c = search needs
@@ -123,28 +135,11 @@ enum-known-why c = search needs
 ended-requires-2 : tie.Need-ended-requires-2 Inv-loop μ-loop
 ended-requires-2 c κs = search needs
 
-same-length-4 : tie.Need-same-length-4 Inv-loop μ-loop
-same-length-4 c = search needs
-
 same-length-5 : tie.Need-same-length-5 Inv-loop μ-loop
 same-length-5 c = search needs
 
 same-length-6 : tie.Need-same-length-6 Inv-loop μ-loop
 same-length-6 c = search needs
-
-returns-2 : tie.Need-returns-2 Inv-loop μ-loop
-returns-2 c =
-    let h = c .before .before .before .before .before .before .loop in
-    let log = c .before .before .before .before .before .before .before .before .before .before .before .before .before .args .log .now in
-    let s = stateOf (h .board) (h .tally) (h .selectors) (h .numbers) (h .status) in
-    let why = c .before .before .why .given in
-    let read = placed-refused (h .at) _ (why .0 .0) _ (sym (c .before .before .before .before .read-at .ensures) ∙ why .1) in
-    let ran = loop-stopped log (h .at) (c .before .before .before .before .before .loop-test .taken) s _ _ _ refl (h .inv .1 .1) (read .0) ∙ run-opened _ _ _ in
-    let told = told-outcome log _ (Refused (why .0 .0) (h .tally .fields)) s (h .at) (h .inv .3) ran in
-    rw (c .ended2 .ensures, read .1) (told, h .inv .2)
-
-ended-requires-3 : tie.Need-ended-requires-3 Inv-loop μ-loop
-ended-requires-3 c κs = search needs
 
 same-length-7 : tie.Need-same-length-7 Inv-loop μ-loop
 same-length-7 c = search needs
@@ -152,17 +147,40 @@ same-length-7 c = search needs
 same-length-8 : tie.Need-same-length-8 Inv-loop μ-loop
 same-length-8 c = search needs
 
+returns-2 : tie.Need-returns-2 Inv-loop μ-loop
+returns-2 c =
+    let h = c .before .before .before .before .before .before .loop in
+    let log = c .before .before .before .before .before .before .before .before .before .before .before .before .before .before .args .log .now in
+    let s = stateOf (h .board) (h .tally) (h .selectors) (h .numbers) (h .status) in
+    let why = c .before .before .why .given in
+    let read = placed-refused (h .at) _ (why .0 .0) _ (sym (c .before .before .before .before .read-at .ensures) ∙ why .1) in
+    let ran = loop-stopped log (h .at) (c .before .before .before .before .before .loop-test .taken) s _ _ _ refl (h .inv .1 .1) (read .0) ∙ run-opened _ _ _ in
+    let told = told-outcome log _ (Refused (why .0 .0) (h .tally .fields)) s (h .at) (h .inv .3) ran in
+    rw (c .ended2 .ensures, read .1) (told, (h .inv .2, copied-none log _ _ _ (Refused (why .0 .0) (h .tally .fields)) s ran (λ e. e)))
+
+ended-requires-3 : tie.Need-ended-requires-3 Inv-loop μ-loop
+ended-requires-3 c κs = search needs
+
 same-length-9 : tie.Need-same-length-9 Inv-loop μ-loop
 same-length-9 c = search needs
+
+same-length-10 : tie.Need-same-length-10 Inv-loop μ-loop
+same-length-10 c = search needs
+
+same-length-11 : tie.Need-same-length-11 Inv-loop μ-loop
+same-length-11 c = search needs
+
+same-length-12 : tie.Need-same-length-12 Inv-loop μ-loop
+same-length-12 c = search needs
 
 returns-3 : tie.Need-returns-3 Inv-loop μ-loop
 returns-3 c =
     let h = c .before .before .loop in
-    let log = c .before .before .before .before .before .before .before .before .before .args .log .now in
+    let log = c .before .before .before .before .before .before .before .before .before .before .args .log .now in
     let s = stateOf (h .board) (h .tally) (h .selectors) (h .numbers) (h .status) in
     let ran = loop-end log (h .at) s _ _ _ (c .before .loop-test .left) (h .inv .1 .1) (h .inv .2 .kept) ∙ run-opened _ _ _ in
     let told = told-outcome log _ (Accepted (h .tally .fields) (h .tally .mallocs) (h .tally .live)) s (h .at) (h .inv .3) ran in
-    rw (c .ended3 .ensures) (told, h .inv .2)
+    rw (c .ended3 .ensures) (told, (h .inv .2, copied-all log _ _ _ (h .at) s (h .out) (h .inv .4) (h .inv .0 .0) (c .before .loop-test .left)))
 
 pub run-spec : {M : Type 1} → statement M
 run-spec =
@@ -175,6 +193,8 @@ run-spec =
     loop-holds
     read-at-requires
     enum-known-field
+    cast-t22
+    copy-field-requires
     step-requires
     next-after-requires
     enum-known-place
@@ -185,15 +205,18 @@ run-spec =
     same-length
     same-length-2
     same-length-3
+    same-length-4
     returns
     enum-known-why
     ended-requires-2
-    same-length-4
     same-length-5
     same-length-6
-    returns-2
-    ended-requires-3
     same-length-7
     same-length-8
+    returns-2
+    ended-requires-3
     same-length-9
+    same-length-10
+    same-length-11
+    same-length-12
     returns-3)
