@@ -19,8 +19,7 @@ use Rattle.fields.specs.Bytes.{fromBytes, unpack}
 use Rattle.fields.specs.Rows.{isPresent, lengthOf, rowOf, widthIf, widthsOf}
 use Rattle.fields.specs.Numbers.{fieldWith}
 use Rattle.fields.specs.Checks.{valueChecks}
-use Rattle.fields.specs.declared.Read.the-variants as told
-use Rattle.fields.specs.Read.{Got, Reading, Refused, fieldOf, framingChecks, placed, readField, tagIn, valueIn}
+use Rattle.fields.specs.Read.{Got, Reading, Refused, fieldOf, framingChecks, readField, tagIn, valueIn}
 use Rattle.fields.proofs.Digits.{byte-at}
 use Rattle.fields.proofs.Passing.{all-passed, in-order-append, in-order-map}
 
@@ -81,15 +80,3 @@ pub read-numbers : (tag : ℕ) (r : Row) (v : List ℕ) (w₁ w₂ w₃ w₄ fir
 unfolding widthsOf
 read-numbers tag r v w₁ w₂ w₃ w₄ first second third cell number some e₁ e₂ e₃ e₄ f s t c n =
     rw (f, s, t, c, n, e₁, e₂, e₃, e₄, sym (byte-at v 0 some)) (simp drop-drop)
-
--- ---- what the reader tells, with its part's place
-pub placed-got : (at : ℕ) (x : Reading) (f : Field) (offset : ℕ) → placed at x ≡ told.Got f offset → x ≡ Got f
-placed-got at (Got g) f offset e = let same : g ≡ f = cc in ap Got same
-placed-got at (Refused r) f offset e = absurd (let z : _≡_ {A = ℕ} 0 1 = cc in omega arith)
-
-pub placed-refused : (at : ℕ) (x : Reading) (r : Refusal) (offset : ℕ) → placed at x ≡ told.Refused r offset → (x ≡ Refused r) × (offset ≡ at)
-placed-refused at (Got g) r offset e = absurd (let z : _≡_ {A = ℕ} 0 1 = cc in omega arith)
-placed-refused at (Refused q) r offset e =
-    let same : q ≡ r = cc in
-    let there : offset ≡ at = cc in
-    (ap Refused same, there)

@@ -4,6 +4,7 @@ pub mod Lists
 pub mod Passing
 pub mod Digits
 pub mod Framing
+pub mod Placing
 pub mod Tags
 pub mod Writing
 pub mod Packing

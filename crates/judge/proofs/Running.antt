@@ -22,16 +22,13 @@ use Rattle.fields.specs.Rows.{isTag, lengthOf, rowOf}
 use Rattle.rules.proofs.Tallies.{counted}
 use Rattle.rules.specs.declared.Answer.{Answer}
 use Rattle.rules.specs.declared.Answer.the-variants.{Go, Race, Refuse}
-use Rattle.rules.specs.declared.Verdict.{Verdict}
 use Rattle.rules.specs.Check.{check}
 use Rattle.rules.specs.Commands.{actOf}
 use Rattle.rules.specs.Effect.{effect}
 use Rattle.rules.specs.Log.{endField, located, offsetOf, runBytes, toldAt}
-use Rattle.rules.specs.Run.{Accepted, Ending, Outcome, Raced, Refused as RefusedAt, liveCount, next}
+use Rattle.rules.specs.Run.{Accepted, Ending, Outcome, Refused as RefusedAt, liveCount, next}
 use Rattle.rules.specs.State.{State}
-use Rattle.judge.specs.declared.run.Next.the-variants.{On, Ended}
-use Rattle.judge.specs.Replays.{IsAccepted}
-use Rattle.judge.specs.Runs.{Following, Onward, ended, followed, nextAfter, nextTold, on, readAfter, runFrom}
+use Rattle.judge.specs.Runs.{Following, Onward, ended, followed, nextAfter, on, readAfter, runFrom}
 use Rattle.judge.specs.Steps.{Step, stateAfter, stepOf}
 
 -- ---- a field that was read lies within the bytes, and it passed the checks
@@ -157,17 +154,8 @@ loop-end l at s o n c past whole count = rw count (sym (run-none n s) ∙ (rw (d
 pub onward-on : (x : Following) (b at end : ℕ) (t t′ : State) → x ≡ on b → Onward x at end t t′ → Onward (on b) at end t t′
 onward-on x b at end t t′ e h = rw e at h
 
--- ---- what the code tells of what follows
-pub told-on : (k : Answer) (n : ℕ) (f : Field) (at b : ℕ) → nextTold at (nextAfter k n f at) ≡ On b → (k ≡ Go) × (nextAfter k n f at ≡ on b) × (b ≡ at + (headerBytes + lengthOf (f .tag)))
-told-on Go n f at b e = let same : at + (headerBytes + lengthOf (f .tag)) ≡ b = cc in (refl, ap on same, sym same)
-told-on (Race p) n f at b e = absurd (let z : _≡_ {A = ℕ} 0 1 = cc in omega arith)
-told-on (Refuse r) n f at b e = absurd (let z : _≡_ {A = ℕ} 0 1 = cc in omega arith)
-
-pub told-ended : (k : Answer) (n : ℕ) (f : Field) (at : ℕ) (v : Verdict) → nextTold at (nextAfter k n f at) ≡ Ended v
-    → (ending : Ending) × (nextAfter k n f at ≡ ended ending) × (v ≡ toldAt at ending) × (endField ending ≡ n) × (IsAccepted ending → ⊥)
-told-ended Go n f at v e = absurd (let z : _≡_ {A = ℕ} 0 1 = cc in omega arith)
-told-ended (Race p) n f at v e = let same : toldAt at (Raced n (f .thread) p) ≡ v = cc in (Raced n (f .thread) p, refl, sym same, refl, λ h. h)
-told-ended (Refuse r) n f at v e = let same : toldAt at (RefusedAt r n) ≡ v = cc in (RefusedAt r n, refl, sym same, refl, λ h. h)
+pub goes-on : (k : Answer) (n : ℕ) (f : Field) (at b : ℕ) → k ≡ Go → b ≡ at + (headerBytes + lengthOf (f .tag)) → nextAfter k n f at ≡ on b
+goes-on k n f at b went place = rw (went, place)
 
 -- ---- where a field begins
 pub offset-next : (n : ℕ) (log : List ℕ) → offsetOf (suc n) log ≡ offsetOf n log + (headerBytes + lengthOf (tagIn (drop (offsetOf n log) log)))

@@ -13,11 +13,9 @@ use Rattle.fields.specs.Read.{Reading, Refused as Unread, readField}
 use Rattle.fields.specs.Rows.{lengthOf}
 use Rattle.rules.specs.declared.Answer.{Answer}
 use Rattle.rules.specs.declared.Answer.the-variants.{Go, Race, Refuse}
-use Rattle.rules.specs.Log.{located, runBytes, toldAt}
+use Rattle.rules.specs.Log.{located, runBytes}
 use Rattle.rules.specs.Run.{Ending, Raced, Refused, Outcome}
 use Rattle.rules.specs.State.{State, stateOf}
-use Rattle.judge.specs.declared.run.Next.{Next}
-use Rattle.judge.specs.declared.run.Next.the-variants.{On, Ended}
 use Rattle.judge.specs.declared.run.Ran.{Ran}
 
 -- shut, so that a run stands in the proofs under its name
@@ -38,11 +36,6 @@ abbrev pub nextAfter : Answer → ℕ → Field → ℕ → Following
 nextAfter Go n f at = on (at + (headerBytes + lengthOf (f .tag)))
 nextAfter (Race p) n f at = ended (Raced n (f .thread) p)
 nextAfter (Refuse r) n f at = ended (Refused r n)
-
--- as the code tells it, with the field's place
-abbrev pub nextTold : ℕ → Following → Next
-nextTold at (on next) = On next
-nextTold at (ended ending) = Ended (toldAt at ending)
 
 -- the outcome, where at most n fields may follow
 abbrev pub followed : ℕ → Following → List ℕ → State → Outcome

@@ -5,7 +5,7 @@ ghost use lib.ListN.{drop, length};
 ghost use Rattle.fields.specs.Limits.{logBytes, logFields};
 ghost use Rattle.fields.specs.Read.{placed};
 ghost use Rattle.judge.specs.Replays.{Copies};
-ghost use Rattle.judge.specs.Runs.{RanTo, nextAfter, nextTold, readAfter};
+ghost use Rattle.judge.specs.Runs.{RanTo, readAfter};
 ghost use Rattle.judge.specs.Steps.{Counts};
 ghost use Rattle.rules.specs.Log.{runBytes};
 ghost use Rattle.rules.specs.State.{freshBoard, freshTally, stateOf};
@@ -23,12 +23,6 @@ use rules::ReplayCell;
 use rules::Tally;
 use rules::Verdict;
 
-// Where the next field is read, or what is said of the log.
-pub enum Next {
-    On(usize),
-    Ended(Verdict),
-}
-
 pub struct Ran {
     pub verdict: Verdict,
     pub board: Board,
@@ -42,18 +36,6 @@ fn ended(verdict: Verdict, board: Board, tally: Tally) -> Ran
         verdict,
         board,
         tally,
-    }
-}
-
-fn next_after(answer: Answer, fields: u32, field: Field, at: usize) -> Next
-    requires { ⌜ at ≤ logBytes ⌝ }
-    ensures { λ r. ⌜ r ≡ nextTold at (nextAfter answer fields field at) ⌝ }
-{
-    let offset = at as u32;
-    match answer {
-        Answer::Go => Next::On(at + (Field::HEADER + (value_length(field.tag) as usize))),
-        Answer::Race(p) => Next::Ended(Verdict::Raced(fields, field.thread, p, offset)),
-        Answer::Refuse(why) => Next::Ended(Verdict::Refused(why, fields, offset)),
     }
 }
 
@@ -89,19 +71,23 @@ pub fn run(
     while at < log.len() {
         let fields = tally.fields;
         match read_at(log, at, fields) {
-            Read::Got(field, _) => {
+            Read::Got(field, offset) => {
                 let next = ReplayCell(tally.mallocs as u16);
                 copy_field(field, next, numbers, status, at, out);
                 let stepped = step(field, board, tally, selectors, numbers, status);
                 board = stepped.board;
                 tally = stepped.tally;
                 let answer = stepped.answer;
-                match next_after(answer, fields, field, at) {
-                    Next::On(place) => {
-                        at = place;
+                match answer {
+                    Answer::Go => {
+                        at = at + (Field::HEADER + (value_length(field.tag) as usize));
                     }
-                    Next::Ended(verdict) => {
+                    Answer::Race(p) => {
+                        let verdict = Verdict::Raced(fields, field.thread, p, offset);
                         return ended(verdict, board, tally);
+                    }
+                    Answer::Refuse(why) => {
+                        return ended(Verdict::Refused(why, fields, offset), board, tally);
                     }
                 }
             }

@@ -1,13 +1,13 @@
 -- `judge::run::run` meets its contract. The invariant: the run of what is left, from what is held, gives what the whole run gives, the place is
 -- the offset of the next field, the tally keeps the count of the live cells, and the output holds the copies of the fields before.
-use Prim.Native.Nat.{_-_, _≤_}
-use Rattle.fields.proofs.Framing.{placed-got, placed-refused}
+use Prim.Native.Nat.{ℕ, _+_, _-_, _≤_}
+use Rattle.fields.proofs.Placing.{placed-got, placed-refused}
 use Rattle.judge.proofs.Copied.{Underway, copied-all, copied-none, underway-on}
-use Rattle.judge.proofs.Running.{loop-end, loop-ended, loop-on, loop-stopped, offset-on, onward-on, read-got, run-opened, told-ended, told-on, told-outcome, turn-got, turn-onward}
-use Rattle.judge.specs.Runs.{runFrom}
+use Rattle.judge.proofs.Running.{goes-on, loop-end, loop-ended, loop-on, loop-stopped, offset-on, onward-on, read-got, run-opened, told-outcome, turn-got, turn-onward}
+use Rattle.judge.specs.Runs.{ended, nextAfter, runFrom}
 use Rattle.judge.specs.Steps.{Counts}
 use Rattle.rules.specs.Log.{offsetOf}
-use Rattle.rules.specs.Run.{Accepted, Refused}
+use Rattle.rules.specs.Run.{Accepted, Raced, Refused}
 use Rattle.rules.specs.State.{freshBoard, freshTally, stateOf}
 use borrow.Author.Needs.{needs}
 use lib.ListN.{drop, length}
@@ -43,8 +43,8 @@ read-at-requires c κs = (c .loop-test .taken, c .before .before .before .before
 enum-known-field : tie.Need-enum-known-field Inv-loop μ-loop
 enum-known-field c = search needs
 
-cast-t22 : tie.Need-cast-t22 Inv-loop μ-loop
-cast-t22 c = search needs
+cast-t24 : tie.Need-cast-t24 Inv-loop μ-loop
+cast-t24 c = search needs
 
 copy-field-requires : tie.Need-copy-field-requires Inv-loop μ-loop
 copy-field-requires c κs = search needs
@@ -54,109 +54,137 @@ step-requires c κs =
     let h = c .before .before .before .before .before .before .before .before .before .before .before .before .before .before .before .loop .inv in
     ((h .1 .0 .0, omega (arith, h .1 .0 .0, h .1 .0 .1)), h .2)
 
-next-after-requires : tie.Need-next-after-requires Inv-loop μ-loop
-next-after-requires c κs = omega (arith, c .before .before .before .before .before .before .before .before .before .before .before .before .before .before .before .before .before .before .before .before .before .before .before .loop-test .taken, c .before .before .before .before .before .before .before .before .before .before .before .before .before .before .before .before .before .before .before .before .before .before .before .before .before .before .before .before .before .before .before .before .pre .0)
+enum-told : tie.Need-enum-told Inv-loop μ-loop
+enum-told c = search needs
 
-enum-known-place : tie.Need-enum-known-place Inv-loop μ-loop
-enum-known-place c = search needs
+value-length-requires : tie.Need-value-length-requires Inv-loop μ-loop
+value-length-requires c κs = search needs
+
+cast-at : tie.Need-cast-at Inv-loop μ-loop
+cast-at c = search needs
+
+add-at : tie.Need-add-at Inv-loop μ-loop
+add-at c = search needs
+
+add-at-2 : tie.Need-add-at-2 Inv-loop μ-loop
+add-at-2 c = omega (arith, c .before .before .before .before .before .before .before .before .before .before .before .before .before .before .before .before .before .before .before .before .before .before .before .before .before .before .loop-test .taken, c .before .before .before .before .before .before .before .before .before .before .before .before .before .before .before .before .before .before .before .before .before .before .before .before .before .before .before .before .before .before .before .before .before .before .before .pre .0)
 
 loop-less : tie.Need-loop-less Inv-loop μ-loop
 loop-less c =
-    let h = c .before .before .before .before .before .before .before .before .before .before .before .before .before .before .before .before .before .before .before .before .before .before .before .before .before .before .before .before .loop in
-    let log = c .before .before .before .before .before .before .before .before .before .before .before .before .before .before .before .before .before .before .before .before .before .before .before .before .before .before .before .before .before .before .before .before .before .before .before .before .args .log .now in
+    let h = c .before .before .before .before .before .before .before .before .before .before .before .before .before .before .before .before .before .before .before .before .before .before .before .before .before .before .before .loop in
+    let log = c .before .before .before .before .before .before .before .before .before .before .before .before .before .before .before .before .before .before .before .before .before .before .before .before .before .before .before .before .before .before .before .before .before .before .before .args .log .now in
     let s = stateOf (h .board) (h .tally) (h .selectors) (h .numbers) (h .status) in
-    let within = c .before .before .before .before .before .before .before .before .before .before .before .before .before .before .before .before .before .before .before .before .before .before .before .before .before .before .before .loop-test .taken in
-    let got = c .before .before .before .before .before .before .before .before .before .before .before .before .before .before .before .before .before .before .before .before .before .before .before .before .field .given in
+    let within = c .before .before .before .before .before .before .before .before .before .before .before .before .before .before .before .before .before .before .before .before .before .before .before .before .before .before .loop-test .taken in
+    let got = c .before .before .before .before .before .before .before .before .before .before .before .before .before .before .before .before .before .before .before .before .before .before .before .field .given in
     let f = got .0 .0 in
-    let read = read-got (h .tally .fields) (drop (h .at) log) f (placed-got (h .at) _ f _ (sym (c .before .before .before .before .before .before .before .before .before .before .before .before .before .before .before .before .before .before .before .before .before .before .before .before .before .before .read-at .ensures) ∙ got .1)) in
-    let step = c .before .before .before .before .before .before .before .before .before .before .before .before .step in
-    let on = told-on (step .result .answer) (h .tally .fields) f (h .at) _ (sym (c .before .before .before .next-after .ensures) ∙ c .before .place .given .1) in
-    let o = onward-on _ _ (h .at) (length log) s _ (on .1) (turn-onward log (h .at) within f (read .1) s _ (step .ensures .0)) in
+    let placed = placed-got (h .at) _ f _ (sym (c .before .before .before .before .before .before .before .before .before .before .before .before .before .before .before .before .before .before .before .before .before .before .before .before .before .read-at .ensures) ∙ got .1) in
+    let read = read-got (h .tally .fields) (drop (h .at) log) f (placed .0) in
+    let step = c .before .before .before .before .before .before .before .before .before .before .before .step in
+    let went = c .before .enum-told .given .1 in
+    let place = ap (λ (k : ℕ). h .at + (3 + k)) (c .value-length .ensures) in
+    let on = goes-on (step .result .answer) (h .tally .fields) f (h .at) _ went place in
+    let o = onward-on _ _ (h .at) (length log) s _ on (turn-onward log (h .at) within f (read .1) s _ (step .ensures .0)) in
     omega (arith, o .0 .0, o .0 .1)
 
 loop-again : tie.Need-loop-again Inv-loop μ-loop
 loop-again c =
-    let h = c .before .before .before .before .before .before .before .before .before .before .before .before .before .before .before .before .before .before .before .before .before .before .before .before .before .before .before .before .loop in
-    let log = c .before .before .before .before .before .before .before .before .before .before .before .before .before .before .before .before .before .before .before .before .before .before .before .before .before .before .before .before .before .before .before .before .before .before .before .before .args .log .now in
+    let h = c .before .before .before .before .before .before .before .before .before .before .before .before .before .before .before .before .before .before .before .before .before .before .before .before .before .before .before .loop in
+    let log = c .before .before .before .before .before .before .before .before .before .before .before .before .before .before .before .before .before .before .before .before .before .before .before .before .before .before .before .before .before .before .before .before .before .before .before .args .log .now in
     let s = stateOf (h .board) (h .tally) (h .selectors) (h .numbers) (h .status) in
-    let within = c .before .before .before .before .before .before .before .before .before .before .before .before .before .before .before .before .before .before .before .before .before .before .before .before .before .before .before .loop-test .taken in
-    let got = c .before .before .before .before .before .before .before .before .before .before .before .before .before .before .before .before .before .before .before .before .before .before .before .before .field .given in
+    let within = c .before .before .before .before .before .before .before .before .before .before .before .before .before .before .before .before .before .before .before .before .before .before .before .before .before .before .loop-test .taken in
+    let got = c .before .before .before .before .before .before .before .before .before .before .before .before .before .before .before .before .before .before .before .before .before .before .before .field .given in
     let f = got .0 .0 in
-    let read = read-got (h .tally .fields) (drop (h .at) log) f (placed-got (h .at) _ f _ (sym (c .before .before .before .before .before .before .before .before .before .before .before .before .before .before .before .before .before .before .before .before .before .before .before .before .before .before .read-at .ensures) ∙ got .1)) in
-    let step = c .before .before .before .before .before .before .before .before .before .before .before .before .step in
-    let on = told-on (step .result .answer) (h .tally .fields) f (h .at) _ (sym (c .before .before .before .next-after .ensures) ∙ c .before .place .given .1) in
-    let o = onward-on _ _ (h .at) (length log) s _ (on .1) (turn-onward log (h .at) within f (read .1) s _ (step .ensures .0)) in (
-      (o .0 .1, (c .before .before .before .before .before .before .before .before .before .before .before .before .before .before .before .before .before .out .given ∙ h .inv .0 .1 .0, (c .before .before .before .before .before .before .before .before .before .before .before .selectors .given ∙ h .inv .0 .1 .1 .0, (c .before .before .before .before .before .before .before .before .before .numbers .given ∙ h .inv .0 .1 .1 .1 .0, c .before .before .before .before .before .before .before .status .given ∙ h .inv .0 .1 .1 .1 .1)))),
+    let placed = placed-got (h .at) _ f _ (sym (c .before .before .before .before .before .before .before .before .before .before .before .before .before .before .before .before .before .before .before .before .before .before .before .before .before .read-at .ensures) ∙ got .1) in
+    let read = read-got (h .tally .fields) (drop (h .at) log) f (placed .0) in
+    let step = c .before .before .before .before .before .before .before .before .before .before .before .step in
+    let went = c .before .enum-told .given .1 in
+    let place = ap (λ (k : ℕ). h .at + (3 + k)) (c .value-length .ensures) in
+    let on = goes-on (step .result .answer) (h .tally .fields) f (h .at) _ went place in
+    let o = onward-on _ _ (h .at) (length log) s _ on (turn-onward log (h .at) within f (read .1) s _ (step .ensures .0)) in (
+      (o .0 .1, (c .before .before .before .before .before .before .before .before .before .before .before .before .before .before .before .before .out .given ∙ h .inv .0 .1 .0, (c .before .before .before .before .before .before .before .before .before .before .selectors .given ∙ h .inv .0 .1 .1 .0, (c .before .before .before .before .before .before .before .before .numbers .given ∙ h .inv .0 .1 .1 .1 .0, c .before .before .before .before .before .before .status .given ∙ h .inv .0 .1 .1 .1 .1)))),
       (
         (omega (arith, o .1 .0, read .0), omega (arith, o .1 .0, o .1 .1, h .inv .1 .0 .1)),
-        loop-on log (h .at) within _ s _ _ _ _ (turn-got log (h .at) within f (read .1) s _ (step .ensures .0)) (omega (arith, o .1 .0, read .0)) (h .inv .1 .1) _ (on .1),
+        loop-on log (h .at) within _ s _ _ _ _ (turn-got log (h .at) within f (read .1) s _ (step .ensures .0)) (omega (arith, o .1 .0, read .0)) (h .inv .1 .1) _ on,
       ),
       step .ensures .1,
-      offset-on (h .tally .fields) _ log (h .at) _ f (h .inv .3) (read .1) (on .2) (o .1 .0),
-      underway-on log _ _ _ _ (h .at) s (h .out) (h .inv .4) (h .inv .0 .1 .0) (omega (arith, o .1 .0, read .0)) within f (read .1) _ (step .ensures .0) (on .0) _ (on .2) _ (c .before .before .before .before .before .before .before .before .before .before .before .before .before .before .before .before .before .before .copy-field .ensures (h .board) (h .tally) (h .selectors)),
+      offset-on (h .tally .fields) _ log (h .at) _ f (h .inv .3) (read .1) place (o .1 .0),
+      underway-on log _ _ _ _ (h .at) s (h .out) (h .inv .4) (h .inv .0 .1 .0) (omega (arith, o .1 .0, read .0)) within f (read .1) _ (step .ensures .0) went _ place _ (c .before .before .before .before .before .before .before .before .before .before .before .before .before .before .before .before .before .copy-field .ensures (h .board) (h .tally) (h .selectors)),
     )
 
-enum-known-verdict : tie.Need-enum-known-verdict Inv-loop μ-loop
-enum-known-verdict c = search needs
+enum-known-answer : tie.Need-enum-known-answer Inv-loop μ-loop
+enum-known-answer c = search needs
 
 ended-requires : tie.Need-ended-requires Inv-loop μ-loop
 ended-requires c κs = search needs
 
 same-length : tie.Need-same-length Inv-loop μ-loop
-same-length c = c .before .before .before .before .before .before .before .before .before .before .before .before .before .before .before .before .before .before .out .given ∙ c .before .before .before .before .before .before .before .before .before .before .before .before .before .before .before .before .before .before .before .before .before .before .before .before .before .before .before .before .before .loop .inv .0 .1 .0
+same-length c = c .before .before .before .before .before .before .before .before .before .before .before .before .before .before .before .before .before .out .given ∙ c .before .before .before .before .before .before .before .before .before .before .before .before .before .before .before .before .before .before .before .before .before .before .before .before .before .before .before .before .loop .inv .0 .1 .0
 
 same-length-2 : tie.Need-same-length-2 Inv-loop μ-loop
-same-length-2 c = c .before .before .before .before .before .before .before .before .before .before .before .before .selectors .given ∙ c .before .before .before .before .before .before .before .before .before .before .before .before .before .before .before .before .before .before .before .before .before .before .before .before .before .before .before .before .before .loop .inv .0 .1 .1 .0
+same-length-2 c = c .before .before .before .before .before .before .before .before .before .before .before .selectors .given ∙ c .before .before .before .before .before .before .before .before .before .before .before .before .before .before .before .before .before .before .before .before .before .before .before .before .before .before .before .before .loop .inv .0 .1 .1 .0
 
 same-length-3 : tie.Need-same-length-3 Inv-loop μ-loop
-same-length-3 c = c .before .before .before .before .before .before .before .before .before .before .numbers .given ∙ c .before .before .before .before .before .before .before .before .before .before .before .before .before .before .before .before .before .before .before .before .before .before .before .before .before .before .before .before .before .loop .inv .0 .1 .1 .1 .0
+same-length-3 c = c .before .before .before .before .before .before .before .before .before .numbers .given ∙ c .before .before .before .before .before .before .before .before .before .before .before .before .before .before .before .before .before .before .before .before .before .before .before .before .before .before .before .before .loop .inv .0 .1 .1 .1 .0
 
 same-length-4 : tie.Need-same-length-4 Inv-loop μ-loop
-same-length-4 c = c .before .before .before .before .before .before .before .before .status .given ∙ c .before .before .before .before .before .before .before .before .before .before .before .before .before .before .before .before .before .before .before .before .before .before .before .before .before .before .before .before .before .loop .inv .0 .1 .1 .1 .1
+same-length-4 c = c .before .before .before .before .before .before .before .status .given ∙ c .before .before .before .before .before .before .before .before .before .before .before .before .before .before .before .before .before .before .before .before .before .before .before .before .before .before .before .before .loop .inv .0 .1 .1 .1 .1
 
 returns : tie.Need-returns Inv-loop μ-loop
 returns c =
-    let h = c .before .before .before .before .before .before .before .before .before .before .before .before .before .before .before .before .before .before .before .before .before .before .before .before .before .before .before .before .before .loop in
-    let log = c .before .before .before .before .before .before .before .before .before .before .before .before .before .before .before .before .before .before .before .before .before .before .before .before .before .before .before .before .before .before .before .before .before .before .before .before .before .args .log .now in
+    let h = c .before .before .before .before .before .before .before .before .before .before .before .before .before .before .before .before .before .before .before .before .before .before .before .before .before .before .before .before .loop in
+    let log = c .before .before .before .before .before .before .before .before .before .before .before .before .before .before .before .before .before .before .before .before .before .before .before .before .before .before .before .before .before .before .before .before .before .before .before .before .args .log .now in
     let s = stateOf (h .board) (h .tally) (h .selectors) (h .numbers) (h .status) in
-    let within = c .before .before .before .before .before .before .before .before .before .before .before .before .before .before .before .before .before .before .before .before .before .before .before .before .before .before .before .before .loop-test .taken in
-    let got = c .before .before .before .before .before .before .before .before .before .before .before .before .before .before .before .before .before .before .before .before .before .before .before .before .before .field .given in
+    let within = c .before .before .before .before .before .before .before .before .before .before .before .before .before .before .before .before .before .before .before .before .before .before .before .before .before .before .before .loop-test .taken in
+    let got = c .before .before .before .before .before .before .before .before .before .before .before .before .before .before .before .before .before .before .before .before .before .before .before .before .field .given in
     let f = got .0 .0 in
-    let read = read-got (h .tally .fields) (drop (h .at) log) f (placed-got (h .at) _ f _ (sym (c .before .before .before .before .before .before .before .before .before .before .before .before .before .before .before .before .before .before .before .before .before .before .before .before .before .before .before .read-at .ensures) ∙ got .1)) in
-    let step = c .before .before .before .before .before .before .before .before .before .before .before .before .before .step in
-    let end = told-ended (step .result .answer) (h .tally .fields) f (h .at) _ (sym (c .before .before .before .before .next-after .ensures) ∙ c .before .before .verdict .given .1) in
-    let ran = loop-ended log (h .at) within _ s _ _ _ (4095 - h .tally .fields) (turn-got log (h .at) within f (read .1) s _ (step .ensures .0)) (omega (arith, read .0)) (h .inv .1 .1) _ (end .1) ∙ run-opened _ _ _ in
-    let told = told-outcome log _ (end .0) _ (h .at) (h .inv .3 ∙ ap (λ n. offsetOf n log) (sym (end .3))) ran in
-    rw (c .ended .ensures) ((end .2 ∙ told .0, told .1), (step .ensures .1, copied-none log _ _ _ (end .0) _ ran (end .4)))
+    let placed = placed-got (h .at) _ f _ (sym (c .before .before .before .before .before .before .before .before .before .before .before .before .before .before .before .before .before .before .before .before .before .before .before .before .before .before .read-at .ensures) ∙ got .1) in
+    let read = read-got (h .tally .fields) (drop (h .at) log) f (placed .0) in
+    let step = c .before .before .before .before .before .before .before .before .before .before .before .before .step in
+    let said = c .before .before .answer .given in
+    let ending = Raced (h .tally .fields) (f .thread) (said .0 .0) in
+    let end : nextAfter (step .result .answer) (h .tally .fields) f (h .at) ≡ ended ending = rw (said .1) refl in
+    let ran = loop-ended log (h .at) within _ s _ _ _ (4095 - h .tally .fields) (turn-got log (h .at) within f (read .1) s _ (step .ensures .0)) (omega (arith, read .0)) (h .inv .1 .1) _ end ∙ run-opened _ _ _ in
+    let told = told-outcome log _ ending _ (h .at) (h .inv .3) ran in
+    rw (c .ended .ensures, placed .1) (told, (step .ensures .1, copied-none log _ _ _ ending _ ran (λ e. e)))
 
-enum-known-why : tie.Need-enum-known-why Inv-loop μ-loop
-enum-known-why c = search needs
+enum-known-answer-2 : tie.Need-enum-known-answer-2 Inv-loop μ-loop
+enum-known-answer-2 c = search needs
 
 ended-requires-2 : tie.Need-ended-requires-2 Inv-loop μ-loop
 ended-requires-2 c κs = search needs
 
 same-length-5 : tie.Need-same-length-5 Inv-loop μ-loop
-same-length-5 c = search needs
+same-length-5 c = c .before .before .before .before .before .before .before .before .before .before .before .before .before .before .before .before .before .out .given ∙ c .before .before .before .before .before .before .before .before .before .before .before .before .before .before .before .before .before .before .before .before .before .before .before .before .before .before .before .before .loop .inv .0 .1 .0
 
 same-length-6 : tie.Need-same-length-6 Inv-loop μ-loop
-same-length-6 c = search needs
+same-length-6 c = c .before .before .before .before .before .before .before .before .before .before .before .selectors .given ∙ c .before .before .before .before .before .before .before .before .before .before .before .before .before .before .before .before .before .before .before .before .before .before .before .before .before .before .before .before .loop .inv .0 .1 .1 .0
 
 same-length-7 : tie.Need-same-length-7 Inv-loop μ-loop
-same-length-7 c = search needs
+same-length-7 c = c .before .before .before .before .before .before .before .before .before .numbers .given ∙ c .before .before .before .before .before .before .before .before .before .before .before .before .before .before .before .before .before .before .before .before .before .before .before .before .before .before .before .before .loop .inv .0 .1 .1 .1 .0
 
 same-length-8 : tie.Need-same-length-8 Inv-loop μ-loop
-same-length-8 c = search needs
+same-length-8 c = c .before .before .before .before .before .before .before .status .given ∙ c .before .before .before .before .before .before .before .before .before .before .before .before .before .before .before .before .before .before .before .before .before .before .before .before .before .before .before .before .loop .inv .0 .1 .1 .1 .1
 
 returns-2 : tie.Need-returns-2 Inv-loop μ-loop
 returns-2 c =
-    let h = c .before .before .before .before .before .before .loop in
-    let log = c .before .before .before .before .before .before .before .before .before .before .before .before .before .before .args .log .now in
+    let h = c .before .before .before .before .before .before .before .before .before .before .before .before .before .before .before .before .before .before .before .before .before .before .before .before .before .before .before .before .loop in
+    let log = c .before .before .before .before .before .before .before .before .before .before .before .before .before .before .before .before .before .before .before .before .before .before .before .before .before .before .before .before .before .before .before .before .before .before .before .before .args .log .now in
     let s = stateOf (h .board) (h .tally) (h .selectors) (h .numbers) (h .status) in
-    let why = c .before .before .why .given in
-    let read = placed-refused (h .at) _ (why .0 .0) _ (sym (c .before .before .before .before .read-at .ensures) ∙ why .1) in
-    let ran = loop-stopped log (h .at) (c .before .before .before .before .before .loop-test .taken) s _ _ _ refl (h .inv .1 .1) (read .0) ∙ run-opened _ _ _ in
-    let told = told-outcome log _ (Refused (why .0 .0) (h .tally .fields)) s (h .at) (h .inv .3) ran in
-    rw (c .ended2 .ensures, read .1) (told, (h .inv .2, copied-none log _ _ _ (Refused (why .0 .0) (h .tally .fields)) s ran (λ e. e)))
+    let within = c .before .before .before .before .before .before .before .before .before .before .before .before .before .before .before .before .before .before .before .before .before .before .before .before .before .before .before .loop-test .taken in
+    let got = c .before .before .before .before .before .before .before .before .before .before .before .before .before .before .before .before .before .before .before .before .before .before .before .before .field .given in
+    let f = got .0 .0 in
+    let placed = placed-got (h .at) _ f _ (sym (c .before .before .before .before .before .before .before .before .before .before .before .before .before .before .before .before .before .before .before .before .before .before .before .before .before .before .read-at .ensures) ∙ got .1) in
+    let read = read-got (h .tally .fields) (drop (h .at) log) f (placed .0) in
+    let step = c .before .before .before .before .before .before .before .before .before .before .before .before .step in
+    let said = c .before .before .answer2 .given in
+    let ending = Refused (said .0 .0) (h .tally .fields) in
+    let end : nextAfter (step .result .answer) (h .tally .fields) f (h .at) ≡ ended ending = rw (said .1) refl in
+    let ran = loop-ended log (h .at) within _ s _ _ _ (4095 - h .tally .fields) (turn-got log (h .at) within f (read .1) s _ (step .ensures .0)) (omega (arith, read .0)) (h .inv .1 .1) _ end ∙ run-opened _ _ _ in
+    let told = told-outcome log _ ending _ (h .at) (h .inv .3) ran in
+    rw (c .ended2 .ensures, placed .1) (told, (step .ensures .1, copied-none log _ _ _ ending _ ran (λ e. e)))
+
+enum-known-why : tie.Need-enum-known-why Inv-loop μ-loop
+enum-known-why c = search needs
 
 ended-requires-3 : tie.Need-ended-requires-3 Inv-loop μ-loop
 ended-requires-3 c κs = search needs
@@ -175,12 +203,38 @@ same-length-12 c = search needs
 
 returns-3 : tie.Need-returns-3 Inv-loop μ-loop
 returns-3 c =
+    let h = c .before .before .before .before .before .before .loop in
+    let log = c .before .before .before .before .before .before .before .before .before .before .before .before .before .before .args .log .now in
+    let s = stateOf (h .board) (h .tally) (h .selectors) (h .numbers) (h .status) in
+    let why = c .before .before .why .given in
+    let read = placed-refused (h .at) _ (why .0 .0) _ (sym (c .before .before .before .before .read-at .ensures) ∙ why .1) in
+    let ran = loop-stopped log (h .at) (c .before .before .before .before .before .loop-test .taken) s _ _ _ refl (h .inv .1 .1) (read .0) ∙ run-opened _ _ _ in
+    let told = told-outcome log _ (Refused (why .0 .0) (h .tally .fields)) s (h .at) (h .inv .3) ran in
+    rw (c .ended3 .ensures, read .1) (told, (h .inv .2, copied-none log _ _ _ (Refused (why .0 .0) (h .tally .fields)) s ran (λ e. e)))
+
+ended-requires-4 : tie.Need-ended-requires-4 Inv-loop μ-loop
+ended-requires-4 c κs = search needs
+
+same-length-13 : tie.Need-same-length-13 Inv-loop μ-loop
+same-length-13 c = search needs
+
+same-length-14 : tie.Need-same-length-14 Inv-loop μ-loop
+same-length-14 c = search needs
+
+same-length-15 : tie.Need-same-length-15 Inv-loop μ-loop
+same-length-15 c = search needs
+
+same-length-16 : tie.Need-same-length-16 Inv-loop μ-loop
+same-length-16 c = search needs
+
+returns-4 : tie.Need-returns-4 Inv-loop μ-loop
+returns-4 c =
     let h = c .before .before .loop in
     let log = c .before .before .before .before .before .before .before .before .before .before .args .log .now in
     let s = stateOf (h .board) (h .tally) (h .selectors) (h .numbers) (h .status) in
     let ran = loop-end log (h .at) s _ _ _ (c .before .loop-test .left) (h .inv .1 .1) (h .inv .2 .kept) ∙ run-opened _ _ _ in
     let told = told-outcome log _ (Accepted (h .tally .fields) (h .tally .mallocs) (h .tally .live)) s (h .at) (h .inv .3) ran in
-    rw (c .ended3 .ensures) (told, (h .inv .2, copied-all log _ _ _ (h .at) s (h .out) (h .inv .4) (h .inv .0 .0) (c .before .loop-test .left)))
+    rw (c .ended4 .ensures) (told, (h .inv .2, copied-all log _ _ _ (h .at) s (h .out) (h .inv .4) (h .inv .0 .0) (c .before .loop-test .left)))
 
 pub run-spec : {M : Type 1} → statement M
 run-spec =
@@ -193,30 +247,40 @@ run-spec =
     loop-holds
     read-at-requires
     enum-known-field
-    cast-t22
+    cast-t24
     copy-field-requires
     step-requires
-    next-after-requires
-    enum-known-place
+    enum-told
+    value-length-requires
+    cast-at
+    add-at
+    add-at-2
     loop-less
     loop-again
-    enum-known-verdict
+    enum-known-answer
     ended-requires
     same-length
     same-length-2
     same-length-3
     same-length-4
     returns
-    enum-known-why
+    enum-known-answer-2
     ended-requires-2
     same-length-5
     same-length-6
     same-length-7
     same-length-8
     returns-2
+    enum-known-why
     ended-requires-3
     same-length-9
     same-length-10
     same-length-11
     same-length-12
-    returns-3)
+    returns-3
+    ended-requires-4
+    same-length-13
+    same-length-14
+    same-length-15
+    same-length-16
+    returns-4)

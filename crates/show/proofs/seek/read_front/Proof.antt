@@ -1,6 +1,6 @@
 -- `show::seek::read_front` meets its contract.
 use Prim.Native.Nat.{_+_}
-use Rattle.fields.proofs.Framing.{placed-got, placed-refused}
+use Rattle.fields.proofs.Placing.{placed-got, placed-refused}
 use Rattle.fields.specs.Read.{readField}
 use Rattle.rules.specs.Showing.{mallocsOf}
 use borrow.Author.Needs.{needs}
@@ -31,7 +31,7 @@ cast-if1 c = search needs
 returns : tie.Need-returns
 returns c =
     let f = c .before .before .before .field .given .0 .0 in
-    let read = placed-got 0 (readField (c .before .before .before .before .before .before .before .args .part .now)) f (c .before .before .before .field .given .0 .1 .0) (sym (c .before .before .before .before .before .read-field .ensures) ∙ c .before .before .before .field .given .1) in
+    let read = placed-got 0 (readField (c .before .before .before .before .before .before .before .args .part .now)) f (c .before .before .before .field .given .0 .1 .0) (sym (c .before .before .before .before .before .read-field .ensures) ∙ c .before .before .before .field .given .1) .0 in
     let counted = c .before .mallocs-of .ensures in
     let before = c .before .before .before .before .before .before .before .args .before in
     rw (read, lt-leb (before + mallocsOf f) 1024 (omega (arith, c .if1 .taken, counted)))
@@ -51,7 +51,7 @@ enum-told c = search needs
 returns-2 : tie.Need-returns-2
 returns-2 c =
     let f = c .before .before .before .before .field .given .0 .0 in
-    let read = placed-got 0 (readField (c .before .before .before .before .before .before .before .before .args .part .now)) f (c .before .before .before .before .field .given .0 .1 .0) (sym (c .before .before .before .before .before .before .read-field .ensures) ∙ c .before .before .before .before .field .given .1) in
+    let read = placed-got 0 (readField (c .before .before .before .before .before .before .before .before .args .part .now)) f (c .before .before .before .before .field .given .0 .1 .0) (sym (c .before .before .before .before .before .before .read-field .ensures) ∙ c .before .before .before .before .field .given .1) .0 in
     let counted = c .before .before .mallocs-of .ensures in
     let before = c .before .before .before .before .before .before .before .before .args .before in
     rw (read, le-leb (before + mallocsOf f) 1024 (omega (arith, c .before .if1 .left, counted)), c .value-length .ensures, counted)
