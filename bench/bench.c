@@ -1,13 +1,14 @@
 /* The proved judge and two plain C judges, one in place and one that hands the board on by value, on the same logs, in one process:
- * first compared, then timed. Prints for each mix of logs the best times over interleaved rounds, and their ratios. */
+ * first compared, then timed in interleaved rounds. Prints for each mix of logs the ratios of the times, and the best times. */
 #include <stdio.h>
+#include <stdlib.h>
 #include <string.h>
 #include <time.h>
 #include "logs.h"
 #include "plain.h"
 #include "thawhazel.h"
 
-enum { ROUNDS = 15, RANDOM_MIXES = 100 };
+enum { ROUNDS = 101, RANDOM_MIXES = 100 };
 
 typedef uint32_t Judge(const uint8_t *, size_t, uint16_t *, size_t, uint16_t *, size_t, uint32_t *, size_t, uint32_t *, size_t,
                        uint8_t *, size_t, uint32_t *, size_t, uint32_t *, size_t);
@@ -61,17 +62,33 @@ static double time_of(Judge *judge, Lent *l, const Mix *mix, int repeats) {
     return (seconds() - begin) / repeats / mix->count;
 }
 
-/* The judges take turns over one and the same buffers, so that none has the better place. */
+static int by_size(const void *a, const void *b) {
+    double x = *(const double *)a, y = *(const double *)b;
+    return (x > y) - (x < y);
+}
+
+static double median(double *ratios) {
+    qsort(ratios, ROUNDS, sizeof *ratios, by_size);
+    return ratios[ROUNDS / 2];
+}
+
+/* The judges take turns over one and the same buffers, so that none has the better place. A round's times lie close together, so that
+ * what else the machine does weighs on all of them: the ratio is the median of the rounds' ratios. */
 static void compare(const Mix *mix, int repeats) {
     static Lent lent;
+    static double proved[ROUNDS], by_value[ROUNDS];
     double best[JUDGES] = {1e9, 1e9, 1e9};
-    for (int round = 0; round < ROUNDS; round++)
+    for (int round = 0; round < ROUNDS; round++) {
+        double times[JUDGES];
         for (int j = 0; j < JUDGES; j++) {
-            double time = time_of(judges[j], &lent, mix, repeats);
-            if (time < best[j]) best[j] = time;
+            times[j] = time_of(judges[j], &lent, mix, repeats);
+            if (times[j] < best[j]) best[j] = times[j];
         }
-    printf("%-12s proved %7.2f, plain %7.2f, by value %7.2f us a log; proved to plain %.2f, by value to plain %.2f\n", mix->name,
-           best[PROVED] * 1e6, best[PLAIN] * 1e6, best[BY_VALUE] * 1e6, best[PROVED] / best[PLAIN], best[BY_VALUE] / best[PLAIN]);
+        proved[round] = times[PROVED] / times[PLAIN];
+        by_value[round] = times[BY_VALUE] / times[PLAIN];
+    }
+    printf("%-12s proved to plain %.2f, by value to plain %.2f (best rounds: %.2f, %.2f and %.2f us a log)\n", mix->name, median(proved),
+           median(by_value), best[PROVED] * 1e6, best[BY_VALUE] * 1e6, best[PLAIN] * 1e6);
 }
 
 static int check_random(Mix *mix) {
@@ -87,7 +104,7 @@ static int check_random(Mix *mix) {
 int main(void) {
     static Mix mix;
     static void (*const make[])(Mix *) = {make_no_frees, make_half_frees, make_deep_reuse, make_short_logs};
-    static const int repeats[] = {10, 10, 10, 20};
+    static const int repeats[] = {2, 2, 2, 4};
     if (!check_random(&mix)) return 1;
     for (int i = 0; i < 4; i++) {
         long kinds[4] = {0, 0, 0, 0};

@@ -173,7 +173,7 @@ fn play_assertion<'a>(
 }
 
 // The two arrays are those of the board that the step hands back: they are changed where they lie, and no board is copied here.
-// An assignment of data stands here and not in a function of its own: it was faster so.
+// An assignment of data stands here and not in a function of its own, where its value would go through memory.
 pub fn play(
     act: Act,
     tally: Tally,

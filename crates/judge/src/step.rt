@@ -18,8 +18,8 @@ pub struct Stepped {
     pub answer: Answer,
 }
 
-// What is asked keeps the tally's sums within their type. The board is taken apart once, before the field is decoded, which was faster
-// than after: the checks read the two arrays, the change is made in them, and they are handed back as the board after the step.
+// What is asked keeps the tally's sums within their type. The board is taken apart once, and before the field is decoded, so that nothing
+// decoded is kept over the copies: the checks read the two arrays, the change is made in them, and they are handed back as the board.
 pub fn step(
     field: Field,
     board: Board,
