@@ -10,9 +10,6 @@
 
 enum { ROUNDS = 101, RANDOM_MIXES = 100 };
 
-typedef uint32_t Judge(const uint8_t *, size_t, uint16_t *, size_t, uint16_t *, size_t, uint32_t *, size_t, uint32_t *, size_t,
-                       uint8_t *, size_t, uint32_t *, size_t, uint32_t *, size_t);
-
 /* What is lent, with a spare place after each part. */
 typedef struct {
     uint16_t pointers[THAWHAZEL_POINTERS + 1], selectors[THAWHAZEL_SELECTORS + 1];
