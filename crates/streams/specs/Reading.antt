@@ -1,0 +1,59 @@
+-- What reading into a buffer gives, by what the system answered to each call.
+-- Assumes nothing.
+use Prim.Native.Nat.{ℕ}
+use mathlib.Core.Bool.{false}
+use mathlib.Core.List.{List, [], _∷_, _++_}
+use mathlib.Core.Logic.{_⊎_}
+use mathlib.Core.Path.{_≡_}
+use lib.IntN.{ℤ}
+use lib.ListN.{length, take}
+use Rattle.streams.specs.Answers.{answerOf, movedOf, stops}
+use Rattle.streams.specs.declared.answers.Answer.{Answer}
+use Rattle.streams.specs.declared.answers.Answer.the-variants.{Moved, Nothing, Interrupted, Failed}
+use Rattle.streams.specs.declared.reading.Stop.{Stop}
+use Rattle.streams.specs.declared.reading.Stop.the-variants.{Full, Ended, Broken}
+
+-- one call of read: its number, errno after it, and what the lent part of the buffer holds after it
+pub record Call : Type 0 where
+  pub got : ℤ
+  pub error : ℤ
+  pub part : List ℕ
+
+abbrev pub answer : Call → Answer
+answer call = answerOf (call .got) (call .error)
+
+-- every byte that the calls brought, in their order; the list has the latest call first
+abbrev pub brought : List Call → List ℕ
+brought [] = []
+brought (call ∷ earlier) = brought earlier ++ take (movedOf (answer call)) (call .part)
+
+abbrev pub AllGoOn : List Call → Type 0
+AllGoOn [] = Unit {0}
+AllGoOn (call ∷ earlier) = (stops (answer call) ≡ false) × AllGoOn earlier
+
+-- the answer that the latest call got
+abbrev pub Last : Answer → List Call → Type 0
+Last a [] = ⊥
+Last a (call ∷ earlier) = (answer call ≡ a) × AllGoOn earlier
+
+-- the most calls that are made
+abbrev pub calls : ℕ
+calls = 0xffff_ffff_ffff_ffff
+
+-- why no more was read, the room being the buffer's length. An end is one that a call answered, and before it there were only
+-- bytes and interrupted calls; a full buffer needs no end.
+abbrev pub StopsBy : Stop → ℕ → List Call → Type 0
+StopsBy Full room made = AllGoOn made × (length (brought made) ≡ room)
+StopsBy Ended room made = Last Nothing made
+StopsBy Broken room made = Last Failed made ⊎ (length made ≡ calls)
+
+-- of an answer after which nothing more is read
+abbrev pub stopOf : Answer → Stop
+stopOf (Moved n) = Broken
+stopOf Nothing = Ended
+stopOf Interrupted = Broken
+stopOf Failed = Broken
+
+-- a buffer after reading, how many bytes at its start were read, and why no more: these are all the bytes that the calls brought
+abbrev pub ReadsBy : List ℕ → ℕ → Stop → Type 0
+ReadsBy buffer count stop = (made : List Call) × (take count buffer ≡ brought made) × StopsBy stop (length buffer) made
