@@ -7,18 +7,15 @@ use super::lent::POINTERS;
 use super::lent::SELECTORS;
 use super::lent::VARIABLES;
 use super::lent::is_untouched;
-use super::text::ROOM;
-use super::text::put;
-use super::text::put_all;
-use super::text::put_number;
+use console::ROOM;
+use console::put;
+use console::put_all;
+use console::put_number;
 use rules::Board;
 use rules::Heap;
 use rules::Tally;
 
-fn put_place(text: &mut [u8; ROOM], start: usize, letter: u8, place: usize, held: u32) -> usize
-    requires { ⌜ start ≤ 4096 ⌝ }
-    ensures { λ r. ⌜ r ≤ 4096 ⌝ }
-{
+fn put_place(text: &mut [u8; ROOM], start: usize, letter: u8, place: usize, held: u32) -> usize {
     let mut at = put(text, start, b' ');
     at = put(text, at, letter);
     at = put_number(text, at, place as u64);
@@ -26,30 +23,21 @@ fn put_place(text: &mut [u8; ROOM], start: usize, letter: u8, place: usize, held
     put_number(text, at, held as u64)
 }
 
-fn put_word(text: &mut [u8; ROOM], at: usize, letter: u8, place: usize, word: u16) -> usize
-    requires { ⌜ at ≤ 4096 ⌝ }
-    ensures { λ r. ⌜ r ≤ 4096 ⌝ }
-{
+fn put_word(text: &mut [u8; ROOM], at: usize, letter: u8, place: usize, word: u16) -> usize {
     if word == Heap::UNSET {
         return at;
     }
     put_place(text, at, letter, place, word as u32)
 }
 
-fn put_data(text: &mut [u8; ROOM], at: usize, letter: u8, place: usize, number: u32) -> usize
-    requires { ⌜ at ≤ 4096 ⌝ }
-    ensures { λ r. ⌜ r ≤ 4096 ⌝ }
-{
+fn put_data(text: &mut [u8; ROOM], at: usize, letter: u8, place: usize, number: u32) -> usize {
     if number == 0 {
         return at;
     }
     put_place(text, at, letter, place, number)
 }
 
-fn put_status(text: &mut [u8; ROOM], at: usize, place: usize, status: u8) -> usize
-    requires { ⌜ at ≤ 4096 ⌝ }
-    ensures { λ r. ⌜ r ≤ 4096 ⌝ }
-{
+fn put_status(text: &mut [u8; ROOM], at: usize, place: usize, status: u8) -> usize {
     if status == Heap::NEVER_USED {
         return at;
     }
@@ -57,8 +45,7 @@ fn put_status(text: &mut [u8; ROOM], at: usize, place: usize, status: u8) -> usi
 }
 
 fn put_words(text: &mut [u8; ROOM], start: usize, letter: u8, words: &[u16], size: usize) -> usize
-    requires { ⌜ (start ≤ 4096) × (size ≤ length (now words)) ⌝ }
-    ensures { λ r. ⌜ r ≤ 4096 ⌝ }
+    requires { ⌜ size ≤ length (now words) ⌝ }
 {
     let mut at = start;
     for i in 0..size {
@@ -74,8 +61,7 @@ fn put_numbers(
     numbers: &[u32],
     size: usize,
 ) -> usize
-    requires { ⌜ (start ≤ 4096) × (size ≤ length (now numbers)) ⌝ }
-    ensures { λ r. ⌜ r ≤ 4096 ⌝ }
+    requires { ⌜ size ≤ length (now numbers) ⌝ }
 {
     let mut at = start;
     for i in 0..size {
@@ -84,10 +70,7 @@ fn put_numbers(
     at
 }
 
-fn put_statuses(text: &mut [u8; ROOM], start: usize, status: &[u8; CELLS]) -> usize
-    requires { ⌜ start ≤ 4096 ⌝ }
-    ensures { λ r. ⌜ r ≤ 4096 ⌝ }
-{
+fn put_statuses(text: &mut [u8; ROOM], start: usize, status: &[u8; CELLS]) -> usize {
     let mut at = start;
     for i in 0..Heap::CELLS {
         at = put_status(text, at, i, status[i]);
@@ -95,10 +78,7 @@ fn put_statuses(text: &mut [u8; ROOM], start: usize, status: &[u8; CELLS]) -> us
     at
 }
 
-fn put_tally(text: &mut [u8; ROOM], start: usize, tally: Tally) -> usize
-    requires { ⌜ start ≤ 4096 ⌝ }
-    ensures { λ r. ⌜ r ≤ 4096 ⌝ }
-{
+fn put_tally(text: &mut [u8; ROOM], start: usize, tally: Tally) -> usize {
     let mut at = put_all(text, start, b"fields=");
     at = put_number(text, at, tally.fields as u64);
     at = put_all(text, at, b" mallocs=");
@@ -115,10 +95,7 @@ fn put_places(
     variables: &[u32; VARIABLES],
     numbers: &[u32; CELLS],
     status: &[u8; CELLS],
-) -> usize
-    requires { ⌜ start ≤ 4096 ⌝ }
-    ensures { λ r. ⌜ r ≤ 4096 ⌝ }
-{
+) -> usize {
     let mut at = put_words(text, start, b'p', pointers, Board::POINTERS);
     at = put_words(text, at, b's', selectors, Heap::SELECTORS);
     at = put_numbers(text, at, b'x', variables, Board::VARIABLES);
@@ -126,10 +103,7 @@ fn put_places(
     put_statuses(text, at, status)
 }
 
-pub fn put_heap(text: &mut [u8; ROOM], start: usize, left: Left) -> usize
-    requires { ⌜ start ≤ 4096 ⌝ }
-    ensures { λ r. ⌜ r ≤ 4096 ⌝ }
-{
+pub fn put_heap(text: &mut [u8; ROOM], start: usize, left: Left) -> usize {
     let verdict = left.verdict;
     let tally = left.tally;
     let pointers = left.pointers;

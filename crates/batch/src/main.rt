@@ -4,10 +4,15 @@ mod heap_column;
 mod input;
 mod lent;
 mod replay_column;
-mod text;
 
 ghost use Prim.Native.Nat.{_≤_};
 ghost use lib.ListN.{length};
+use console::ROOM;
+use console::end_line;
+use console::put_all;
+use console::put_verdict;
+use console::say_unread;
+use console::tell_whole;
 use fields::Log;
 use heap_column::put_heap;
 use input::Next;
@@ -17,30 +22,25 @@ use lent::judge_poisoned;
 use lent::output_spilled;
 use libc::STDOUT_FILENO;
 use replay_column::put_replay;
-use text::end_line;
-use text::put_all;
-use text::put_verdict;
 
 // More records than any input has.
 const RECORDS: u64 = 0xffff_ffff_ffff_ffff;
 
-fn put_spilled(text: &mut [u8; text::ROOM], at: usize, output: bool, heap: bool) -> usize
-    requires { ⌜ at ≤ 4096 ⌝ }
-    ensures { λ r. ⌜ r ≤ 4096 ⌝ }
-{
+fn put_spilled(text: &mut [u8; ROOM], at: usize, output: bool, heap: bool) -> usize {
     if output || heap {
         return put_all(text, at, b" spilled");
     }
     at
 }
 
-fn write_line(log: &[u8])
+// Whether the line was written.
+fn write_line(log: &[u8]) -> bool
     requires { ⌜ length (now log) ≤ 45057 ⌝ }
 {
     let mut output = [lent::BYTE; lent::OUTPUT];
     let left = judge_poisoned(log, &mut output);
     let verdict = left.verdict;
-    let mut text = [0u8; text::ROOM];
+    let mut text = [0u8; ROOM];
     let mut at = put_verdict(&mut text, 0, verdict);
     at = put_replay(&mut text, at, verdict, &output, log.len());
     at = put_heap(&mut text, at, left);
@@ -50,7 +50,20 @@ fn write_line(log: &[u8])
         output_spilled(verdict, &output, log.len()),
         heap_spilled(left),
     );
-    end_line(&mut text, at);
+    end_line(STDOUT_FILENO, &mut text, at)
+}
+
+fn write_cut() -> bool {
+    let mut text = [0u8; ROOM];
+    let at = put_all(&mut text, 0, b"cut");
+    end_line(STDOUT_FILENO, &mut text, at)
+}
+
+// The end of an input that is cut short.
+fn end_cut() {
+    if write_cut() {
+        tell_whole();
+    }
 }
 
 fn main() {
@@ -60,12 +73,14 @@ fn main() {
         let next = record.next;
         let length = record.length;
         match next {
-            Next::Whole => write_line(&bytes[..length]),
-            Next::Cut => {
-                io::write_all(STDOUT_FILENO, b"cut\n");
-                return;
+            Next::Whole => {
+                if !write_line(&bytes[..length]) {
+                    return;
+                }
             }
-            Next::End => return,
+            Next::Cut => return end_cut(),
+            Next::End => return tell_whole(),
+            Next::Broken => return say_unread(),
         }
     }
 }

@@ -2,16 +2,15 @@
 ghost use Prim.Native.Nat.{_≤_};
 use super::lent::OUTPUT;
 use super::lent::is_accepted;
-use super::text::ROOM;
-use super::text::put;
-use super::text::put_all;
-use super::text::put_byte;
+use console::ROOM;
+use console::put;
+use console::put_all;
+use console::put_byte;
 use rules::Verdict;
 
 // The first so many bytes of the output.
 fn put_bytes(text: &mut [u8; ROOM], start: usize, output: &[u8; OUTPUT], count: usize) -> usize
-    requires { ⌜ (start ≤ 4096) × (count ≤ 45057) ⌝ }
-    ensures { λ r. ⌜ r ≤ 4096 ⌝ }
+    requires { ⌜ count ≤ 45057 ⌝ }
 {
     let mut at = start;
     for i in 0..count {
@@ -28,8 +27,7 @@ pub fn put_replay(
     output: &[u8; OUTPUT],
     length: usize,
 ) -> usize
-    requires { ⌜ (start ≤ 4096) × (length ≤ 45057) ⌝ }
-    ensures { λ r. ⌜ r ≤ 4096 ⌝ }
+    requires { ⌜ length ≤ 45057 ⌝ }
 {
     let at = put(text, start, b'\t');
     if is_accepted(verdict) {

@@ -3,11 +3,17 @@
 ghost use mathlib.Core.Path.{_≡_};
 ghost use Prim.Native.Nat.{_+_, _≤_};
 ghost use lib.ListN.{length};
+use console::ROOM;
+use console::end_line;
+use console::put;
+use console::put_number;
+use console::put_verdict;
 use fields::Log;
 use libc::STDOUT_FILENO;
 use rules::Board;
 use rules::Heap;
 use rules::Tally;
+use rules::Verdict;
 
 // Places that each buffer has past its size.
 const SPARE: usize = 8;
@@ -110,9 +116,9 @@ fn changed_status(status: &[u8]) -> usize {
     changed
 }
 
-fn write_number(number: usize) {
-    io::write_all(STDOUT_FILENO, b" ");
-    io::print_decimal(STDOUT_FILENO, number as u64);
+fn put_count(text: &mut [u8; ROOM], start: usize, count: usize) -> usize {
+    let at = put(text, start, b' ');
+    put_number(text, at, count as u64)
 }
 
 // How much of a buffer is lent: one place less than its size where it is the short one, else its size and what is asked beyond.
@@ -127,6 +133,24 @@ fn lent(size: usize, buffer: u8, short: u8, beyond: usize) -> usize
 }
 
 // The verdict, then how many places were changed of pointers, selectors, variables, numbers and status.
+fn write_line(
+    verdict: Verdict,
+    pointers: &[u16],
+    selectors: &[u16],
+    variables: &[u32],
+    numbers: &[u32],
+    status: &[u8],
+) {
+    let mut text = [0u8; ROOM];
+    let mut at = put_verdict(&mut text, 0, verdict);
+    at = put_count(&mut text, at, changed_words(pointers));
+    at = put_count(&mut text, at, changed_words(selectors));
+    at = put_count(&mut text, at, changed_numbers(variables));
+    at = put_count(&mut text, at, changed_numbers(numbers));
+    at = put_count(&mut text, at, changed_status(status));
+    end_line(STDOUT_FILENO, &mut text, at);
+}
+
 fn show(
     log: &[u8],
     short: u8,
@@ -155,13 +179,7 @@ fn show(
         Tally::fresh(),
     );
     let verdict = judged.verdict;
-    console::write_verdict(STDOUT_FILENO, verdict);
-    write_number(changed_words(pointers));
-    write_number(changed_words(selectors));
-    write_number(changed_numbers(variables));
-    write_number(changed_numbers(numbers));
-    write_number(changed_status(status));
-    io::write_all(STDOUT_FILENO, b"\n");
+    write_line(verdict, pointers, selectors, variables, numbers, status);
 }
 
 fn judge_poisoned(log: &[u8], short: u8, beyond: usize)

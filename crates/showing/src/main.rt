@@ -3,7 +3,15 @@
 // log that has none gets its own verdict. What is shown is proved in the crates below. Its stored input is document 01's case C.
 ghost use Prim.Native.Nat.{_≤_};
 ghost use lib.ListN.{length};
+use console::ROOM;
+use console::end_line;
+use console::finish;
+use console::is_read;
+use console::put;
+use console::put_byte;
+use console::put_verdict;
 use fields::Log;
+use libc::STDIN_FILENO;
 use libc::STDOUT_FILENO;
 use rules::Board;
 use rules::Choice;
@@ -59,31 +67,36 @@ fn number_asked() -> u32
     number_in(&text[..count])
 }
 
-fn print_byte(byte: u8) {
-    io::print_hex(STDOUT_FILENO, byte as u64, 2);
-}
-
-fn print_bytes(part: &[u8]) {
+// The part's bytes, a space between.
+fn put_bytes(text: &mut [u8; ROOM], start: usize, part: &[u8]) -> usize {
+    let mut at = start;
     let mut i = 0;
     while i < part.len() {
         if 0 < i {
-            io::write_all(STDOUT_FILENO, b" ");
+            at = put(text, at, b' ');
         }
-        print_byte(part[i]);
+        at = put_byte(text, at, part[i]);
         i += 1;
     }
+    at
 }
 
-fn print_field<'a>(recorded: &'a [u8], replay: &'a [u8], choice: Choice, number: u32) {
+fn put_field<'a>(
+    text: &mut [u8; ROOM],
+    recorded: &'a [u8],
+    replay: &'a [u8],
+    choice: Choice,
+    number: u32,
+) -> usize {
     match show::find_field(recorded, replay, choice, number) {
-        Shown::Part(_, _) => print_bytes(show::show_field(recorded, replay, choice, number)),
-        Shown::Refused(why, _) => {
-            console::write_verdict(STDOUT_FILENO, Verdict::Declined(why));
+        Shown::Part(_, _) => {
+            put_bytes(text, 0, show::show_field(recorded, replay, choice, number))
         }
+        Shown::Refused(why, _) => put_verdict(text, 0, Verdict::Declined(why)),
     }
 }
 
-fn print_of_replay(log: &[u8], number: u32)
+fn put_of_replay(text: &mut [u8; ROOM], log: &[u8], number: u32) -> usize
     requires { ⌜ length (now log) ≤ 45057 ⌝ }
 {
     let blank = Log::fresh();
@@ -108,28 +121,41 @@ fn print_of_replay(log: &[u8], number: u32)
     let verdict = judged.verdict;
     match verdict {
         Verdict::Accepted(_, _, _) => {
-            print_field(log, &out[..log.len()], Choice::Replay, number);
+            put_field(text, log, &out[..log.len()], Choice::Replay, number)
         }
-        Verdict::Raced(_, _, _, _) => console::write_verdict(STDOUT_FILENO, verdict),
-        Verdict::Refused(_, _, _) => console::write_verdict(STDOUT_FILENO, verdict),
-        Verdict::Declined(_) => console::write_verdict(STDOUT_FILENO, verdict),
+        Verdict::Raced(_, _, _, _) => put_verdict(text, 0, verdict),
+        Verdict::Refused(_, _, _) => put_verdict(text, 0, verdict),
+        Verdict::Declined(_) => put_verdict(text, 0, verdict),
     }
 }
 
-fn print_chosen(log: &[u8], number: u32)
+fn put_chosen(text: &mut [u8; ROOM], log: &[u8], number: u32) -> usize
     requires { ⌜ length (now log) ≤ 45057 ⌝ }
 {
     if os::arg_count() < 3 {
-        print_field(log, log, Choice::Recording, number);
-    } else {
-        print_of_replay(log, number);
+        return put_field(text, log, log, Choice::Recording, number);
     }
+    put_of_replay(text, log, number)
 }
 
+// Whether the line was written.
+fn answer(log: &[u8]) -> bool
+    requires { ⌜ length (now log) ≤ 45057 ⌝ }
+{
+    let mut text = [0u8; ROOM];
+    let at = put_chosen(&mut text, log, number_asked());
+    end_line(STDOUT_FILENO, &mut text, at)
+}
+
+// A log that fills the room is longer than a log may be.
 fn main() {
-    let log = console::read_log();
-    let bytes = log.bytes;
-    let length = log.length;
-    print_chosen(&bytes[..length], number_asked());
-    io::write_all(STDOUT_FILENO, b"\n");
+    let mut bytes = [0u8; Log::ROOM];
+    let read = streams::read_into(STDIN_FILENO, &mut bytes);
+    let length = read.length;
+    let stop = read.stop;
+    if is_read(stop) {
+        if answer(&bytes[..length]) {
+            finish(stop);
+        }
+    }
 }

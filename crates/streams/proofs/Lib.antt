@@ -2,3 +2,4 @@
 -- Assumes nothing.
 pub mod Bounds
 pub mod Growth
+pub mod OneReading

@@ -1,7 +1,7 @@
 -- What reading into a buffer gives, by what the system answered to each call.
 -- Assumes nothing.
-use Prim.Native.Nat.{ℕ}
-use mathlib.Core.Bool.{false}
+use Prim.Native.Nat.{ℕ, _<_}
+use mathlib.Core.Bool.{Bool, true, false}
 use mathlib.Core.List.{List, [], _∷_, _++_}
 use mathlib.Core.Logic.{_⊎_}
 use mathlib.Core.Path.{_≡_}
@@ -36,16 +36,16 @@ abbrev pub Last : Answer → List Call → Type 0
 Last a [] = ⊥
 Last a (call ∷ earlier) = (answer call ≡ a) × AllGoOn earlier
 
--- the most calls that are made
+-- the most calls that are made: the input that takes them all has failed
 abbrev pub calls : ℕ
 calls = 0xffff_ffff_ffff_ffff
 
 -- why no more was read, the room being the buffer's length. An end is one that a call answered, and before it there were only
 -- bytes and interrupted calls; a full buffer needs no end.
 abbrev pub StopsBy : Stop → ℕ → List Call → Type 0
-StopsBy Full room made = AllGoOn made × (length (brought made) ≡ room)
+StopsBy Full room made = AllGoOn made × (length (brought made) ≡ room) × (length made < calls)
 StopsBy Ended room made = Last Nothing made
-StopsBy Broken room made = Last Failed made ⊎ (length made ≡ calls)
+StopsBy Broken room made = Last Failed made ⊎ (AllGoOn made × (length made ≡ calls))
 
 -- of an answer after which nothing more is read
 abbrev pub stopOf : Answer → Stop
@@ -57,3 +57,14 @@ stopOf Failed = Broken
 -- a buffer after reading, how many bytes at its start were read, and why no more: these are all the bytes that the calls brought
 abbrev pub ReadsBy : List ℕ → ℕ → Stop → Type 0
 ReadsBy buffer count stop = (made : List Call) × (take count buffer ≡ brought made) × StopsBy stop (length buffer) made
+
+-- whether all that was asked for was read: to an end that was seen, or to the buffer's
+abbrev pub isRead : Stop → Bool
+isRead Full = true
+isRead Ended = true
+isRead Broken = false
+
+abbrev pub isFull : Stop → Bool
+isFull Full = true
+isFull Ended = false
+isFull Broken = false

@@ -7,6 +7,7 @@ mod writing;
 
 pub use reading::Filled;
 pub use reading::Stop;
+pub use reading::is_full;
 pub use reading::read_into;
 pub use writing::write_whole;
 

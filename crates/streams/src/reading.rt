@@ -1,8 +1,7 @@
 // Reading into a buffer, until it is full or the input's end was seen.
-ghost use Rattle.streams.specs.Reading.{ReadsBy, stopOf};
+ghost use Rattle.io.specs.Counts.{Counts};
+ghost use Rattle.streams.specs.Reading.{ReadsBy, isFull, stopOf};
 ghost use mathlib.Core.Path.{_≡_};
-ghost use lib.ListN.{length};
-ghost use Prim.Native.Nat.{_≤_};
 use crate::CALLS;
 use crate::answers::Answer;
 use crate::answers::answer_of;
@@ -22,6 +21,17 @@ pub struct Filled {
     pub stop: Stop,
 }
 
+// Whether the buffer was filled.
+pub fn is_full(stop: Stop) -> bool
+    ensures { λ r. ⌜ r ≡ isFull stop ⌝ }
+{
+    match stop {
+        Stop::Full => true,
+        Stop::Ended => false,
+        Stop::Broken => false,
+    }
+}
+
 // Of an answer after which nothing more is read.
 fn stop_of(answer: Answer) -> Stop
     ensures { λ r. ⌜ r ≡ stopOf answer ⌝ }
@@ -35,7 +45,7 @@ fn stop_of(answer: Answer) -> Stop
 }
 
 pub fn read_into(fd: i32, bytes: &mut [u8]) -> Filled
-    ensures { λ r. ⌜ r .length ≤ length (now (bytes .exit)) ⌝ }
+    ensures { λ r. ⌜ Counts (r .length) (now (bytes .exit)) ⌝ }
     ensures { λ r. ⌜ ReadsBy (now (bytes .exit)) (r .length) (r .stop) ⌝ }
 {
     let mut length = 0;

@@ -1,14 +1,19 @@
 // The program behind ./thawhazel: judges the log on standard input and prints its verdict, one line, as document 01 prints it.
 // What is judged is proved in the crates below; here a log is read and a verdict printed. Its stored input is document 01's case C.
+use console::ROOM;
+use console::end_line;
+use console::finish;
+use console::is_read;
+use console::put_verdict;
+use fields::Log;
+use libc::STDIN_FILENO;
 use libc::STDOUT_FILENO;
 use rules::Board;
 use rules::Heap;
 use rules::Tally;
 
-fn main() {
-    let log = console::read_log();
-    let bytes = log.bytes;
-    let length = log.length;
+// Whether the verdict was written.
+fn answer(log: &[u8]) -> bool {
     let board = Board::fresh();
     let mut pointers = board.pointers;
     let mut variables = board.variables;
@@ -17,7 +22,7 @@ fn main() {
     let mut numbers = heap.numbers;
     let mut status = heap.status;
     let judged = judge::judge_log(
-        &bytes[..length],
+        log,
         &mut pointers,
         &mut selectors,
         &mut variables,
@@ -26,6 +31,20 @@ fn main() {
         Tally::fresh(),
     );
     let verdict = judged.verdict;
-    console::write_verdict(STDOUT_FILENO, verdict);
-    io::write_all(STDOUT_FILENO, b"\n");
+    let mut text = [0u8; ROOM];
+    let at = put_verdict(&mut text, 0, verdict);
+    end_line(STDOUT_FILENO, &mut text, at)
+}
+
+// A log that fills the room is longer than a log may be.
+fn main() {
+    let mut bytes = [0u8; Log::ROOM];
+    let read = streams::read_into(STDIN_FILENO, &mut bytes);
+    let length = read.length;
+    let stop = read.stop;
+    if is_read(stop) {
+        if answer(&bytes[..length]) {
+            finish(stop);
+        }
+    }
 }

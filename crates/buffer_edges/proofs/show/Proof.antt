@@ -58,44 +58,8 @@ fresh-requires c κs = search needs
 judge-log-requires : tie.Need-judge-log-requires
 judge-log-requires c κs = search needs
 
-write-verdict-requires : tie.Need-write-verdict-requires
-write-verdict-requires c κs = search needs
-
-changed-words-requires : tie.Need-changed-words-requires
-changed-words-requires c κs = search needs
-
-write-number-requires : tie.Need-write-number-requires
-write-number-requires c κs = search needs
-
-changed-words-requires-2 : tie.Need-changed-words-requires-2
-changed-words-requires-2 c κs = search needs
-
-write-number-requires-2 : tie.Need-write-number-requires-2
-write-number-requires-2 c κs = search needs
-
-changed-numbers-requires : tie.Need-changed-numbers-requires
-changed-numbers-requires c κs = search needs
-
-write-number-requires-3 : tie.Need-write-number-requires-3
-write-number-requires-3 c κs = search needs
-
-changed-numbers-requires-2 : tie.Need-changed-numbers-requires-2
-changed-numbers-requires-2 c κs = search needs
-
-write-number-requires-4 : tie.Need-write-number-requires-4
-write-number-requires-4 c κs = search needs
-
-changed-status-requires : tie.Need-changed-status-requires
-changed-status-requires c κs = search needs
-
-write-number-requires-5 : tie.Need-write-number-requires-5
-write-number-requires-5 c κs = search needs
-
-slice-aggregate-write-all : tie.Need-slice-aggregate-write-all
-slice-aggregate-write-all c = search needs
-
-write-all-requires : tie.Need-write-all-requires
-write-all-requires c κs = search needs
+write-line-requires : tie.Need-write-line-requires
+write-line-requires c κs = search needs
 
 same-length : tie.Need-same-length
 same-length c = search needs
@@ -136,19 +100,7 @@ show-spec =
     slice-aggregate-judge-log-5
     fresh-requires
     judge-log-requires
-    write-verdict-requires
-    changed-words-requires
-    write-number-requires
-    changed-words-requires-2
-    write-number-requires-2
-    changed-numbers-requires
-    write-number-requires-3
-    changed-numbers-requires-2
-    write-number-requires-4
-    changed-status-requires
-    write-number-requires-5
-    slice-aggregate-write-all
-    write-all-requires
+    write-line-requires
     same-length
     same-length-2
     same-length-3

@@ -18,11 +18,14 @@ buffer-requires c κs = search needs
 loop-holds : tie.Need-loop-holds Inv-loop μ-loop
 loop-holds c = search needs
 
-slice-aggregate-read-full : tie.Need-slice-aggregate-read-full Inv-loop μ-loop
-slice-aggregate-read-full c = search needs
+slice-aggregate-read-into : tie.Need-slice-aggregate-read-into Inv-loop μ-loop
+slice-aggregate-read-into c = search needs
 
-read-full-requires : tie.Need-read-full-requires Inv-loop μ-loop
-read-full-requires c κs = search needs
+read-into-requires : tie.Need-read-into-requires Inv-loop μ-loop
+read-into-requires c κs = search needs
+
+is-full-requires : tie.Need-is-full-requires Inv-loop μ-loop
+is-full-requires c κs = search needs
 
 returns : tie.Need-returns Inv-loop μ-loop
 returns c = search needs
@@ -47,8 +50,9 @@ drain-spec =
     μ-loop
     buffer-requires
     loop-holds
-    slice-aggregate-read-full
-    read-full-requires
+    slice-aggregate-read-into
+    read-into-requires
+    is-full-requires
     returns
     add-counter
     loop-less

@@ -6,7 +6,7 @@ use Rattle.batch.proofs.heap_column.put_numbers.Statement.{statement}
 use Rattle.batch.proofs.heap_column.put_numbers.Tie as tie
 
 abbrev Inv-loop : tie.InvT-loop
-Inv-loop text₀ start letter numbers size at₀ i₀ text at i = (at ≤ 4096) × ((i ≤ size) × (size ≤ length numbers))
+Inv-loop text₀ start letter numbers size at₀ i₀ text at i = (i ≤ size) × (size ≤ length numbers)
 
 abbrev μ-loop : tie.MeasureT-loop
 μ-loop text₀ start letter numbers size at₀ i₀ text at i = size - i

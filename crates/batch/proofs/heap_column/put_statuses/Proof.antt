@@ -5,7 +5,7 @@ use Rattle.batch.proofs.heap_column.put_statuses.Statement.{statement}
 use Rattle.batch.proofs.heap_column.put_statuses.Tie as tie
 
 abbrev Inv-loop : tie.InvT-loop
-Inv-loop text₀ start status at₀ i₀ text at i = (at ≤ 4096) × (i ≤ 1024)
+Inv-loop text₀ start status at₀ i₀ text at i = i ≤ 1024
 
 abbrev μ-loop : tie.MeasureT-loop
 μ-loop text₀ start status at₀ i₀ text at i = 1024 - i

@@ -6,7 +6,7 @@ use Rattle.batch.proofs.heap_column.put_words.Statement.{statement}
 use Rattle.batch.proofs.heap_column.put_words.Tie as tie
 
 abbrev Inv-loop : tie.InvT-loop
-Inv-loop text₀ start letter words size at₀ i₀ text at i = (at ≤ 4096) × ((i ≤ size) × (size ≤ length words))
+Inv-loop text₀ start letter words size at₀ i₀ text at i = (i ≤ size) × (size ≤ length words)
 
 abbrev μ-loop : tie.MeasureT-loop
 μ-loop text₀ start letter words size at₀ i₀ text at i = size - i

@@ -5,7 +5,7 @@ use Rattle.batch.proofs.replay_column.put_bytes.Statement.{statement}
 use Rattle.batch.proofs.replay_column.put_bytes.Tie as tie
 
 abbrev Inv-loop : tie.InvT-loop
-Inv-loop text₀ start output count at₀ i₀ text at i = (at ≤ 4096) × ((i ≤ count) × (count ≤ 45057))
+Inv-loop text₀ start output count at₀ i₀ text at i = (i ≤ count) × (count ≤ 45057)
 
 abbrev μ-loop : tie.MeasureT-loop
 μ-loop text₀ start output count at₀ i₀ text at i = count - i

@@ -2,6 +2,7 @@
 use Prim.Native.Nat.{ℕ, _+_, _-_, _≤_}
 use borrow.Author.Needs.{needs}
 use borrow.Rule.Slice.PartMut.{midOf}
+use Rattle.io.specs.Counts.{Counts}
 use Rattle.streams.proofs.Bounds.{reaches, within-lent}
 use Rattle.streams.proofs.Growth.{stopped, went-on}
 use lib.ListN.{length, take}
@@ -17,6 +18,9 @@ use mir.Syntax.{w32, w64}
 use mir.Val.{ofZ, toZ}
 use Rattle.streams.proofs.reading.read_into.Statement.{statement}
 use Rattle.streams.proofs.reading.read_into.Tie as tie
+
+counts : (n : ℕ) (xs : List ℕ) → n ≤ length xs → Counts n xs
+counts n xs h = (h, sym (length-take-le n xs h))
 
 abbrev Inv-loop : tie.InvT-loop
 Inv-loop fd bytes₀ length₀ counter₀ bytes count counter =
@@ -35,7 +39,7 @@ returns : tie.Need-returns Inv-loop μ-loop
 returns c =
     let inv = c .before .before .loop .inv in
     let filled = ap length (sym (inv .3 .1)) ∙ length-take-le _ _ (inv .1) ∙ c .if1 .taken in
-    (inv .1, (inv .3 .0, inv .3 .1, (inv .3 .2, filled)))
+    (counts _ _ (inv .1), (inv .3 .0, inv .3 .1, (inv .3 .2, filled, omega (arith, inv .3 .3, c .before .loop-test .taken))))
 
 sub-read : tie.Need-sub-read Inv-loop μ-loop
 sub-read c = search needs
@@ -73,7 +77,7 @@ returns-2 c =
     let lent = length (loop .bytes) - loop .length in
     let inside = subst (λ (n : ℕ). loop .length ≤ n) (sym (c .before .before .before .before .before .before .bytes .given .1)) (inv .1) in
     let last = sym (c .before .before .is-last .ensures) ∙ c .before .if2 .taken in
-    (inside, stopped (loop .length) lent (loop .bytes) call (inv .3 .0) (inv .1) (inv .3 .1) (inv .3 .2) (c .before .before .before .answer-of .result) (c .stop-of .result) (c .before .before .before .answer-of .ensures) (c .stop-of .ensures) last)
+    (counts _ _ inside, stopped (loop .length) lent (loop .bytes) call (inv .3 .0) (inv .1) (inv .3 .1) (inv .3 .2) (c .before .before .before .answer-of .result) (c .stop-of .result) (c .before .before .before .answer-of .ensures) (c .stop-of .ensures) last)
 
 moved-requires : tie.Need-moved-requires Inv-loop μ-loop
 moved-requires c κs = search needs
@@ -117,7 +121,7 @@ same-length-3 c = search needs
 returns-3 : tie.Need-returns-3 Inv-loop μ-loop
 returns-3 c =
     let inv = c .before .loop .inv in
-    (inv .1, (inv .3 .0, inv .3 .1, inr (inv .3 .3 ∙ omega arith)))
+    (counts _ _ (inv .1), (inv .3 .0, inv .3 .1, inr (inv .3 .2, inv .3 .3 ∙ omega arith)))
 
 pub read-into-spec : {M : Type 1} → statement M
 read-into-spec =

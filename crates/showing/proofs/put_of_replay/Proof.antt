@@ -1,11 +1,11 @@
--- `showing::print_of_replay` meets its contract: the log fits the output.
-use borrow.Author.Needs.{needs}
+-- `showing::put_of_replay` meets its contract: the log fits the output.
 use lib.ListN.{length}
 use lib.Seq.{length-take-le}
 use mathlib.Core.Path.{sym}
 use native.Mathlib.Omega.{arith}
-use Rattle.showing.proofs.print_of_replay.Statement.{statement}
-use Rattle.showing.proofs.print_of_replay.Tie as tie
+use borrow.Author.Needs.{needs}
+use Rattle.showing.proofs.put_of_replay.Statement.{statement}
+use Rattle.showing.proofs.put_of_replay.Tie as tie
 
 fresh-requires : tie.Need-fresh-requires
 fresh-requires c κs = search needs
@@ -44,31 +44,31 @@ enum-told : tie.Need-enum-told
 enum-told c = search needs
 
 array-share-prefix-out : tie.Need-array-share-prefix-out
-array-share-prefix-out c = search needs
+array-share-prefix-out c = omega (arith, c .before .before .before .before .before .before .before .before .before .before .before .before .before .before .before .before .before .before .before .before .before .before .before .before .before .before .before .pre)
 
-slice-aggregate-print-field : tie.Need-slice-aggregate-print-field
-slice-aggregate-print-field c = sym (length-take-le (length (c .before .before .before .before .before .before .before .before .before .before .before .before .before .before .before .before .before .before .before .before .before .before .before .before .before .before .before .args .log .now)) (c .before .before .before .before .before .before .before .before .before .replay-log .last .1 .0) (omega (arith, c .before .before .before .before .before .before .before .before .before .before .before .before .before .before .before .before .before .before .before .before .before .before .before .before .before .before .before .pre)))
+slice-aggregate-put-field : tie.Need-slice-aggregate-put-field
+slice-aggregate-put-field c = sym (length-take-le (length (c .before .before .before .before .before .before .before .before .before .before .before .before .before .before .before .before .before .before .before .before .before .before .before .before .before .before .before .before .args .log .now)) (c .before .before .before .before .before .before .before .before .before .before .replay-log .last .1 .0) (omega (arith, c .before .before .before .before .before .before .before .before .before .before .before .before .before .before .before .before .before .before .before .before .before .before .before .before .before .before .before .before .pre)))
 
-print-field-requires : tie.Need-print-field-requires
-print-field-requires c κs = search needs
+put-field-requires : tie.Need-put-field-requires
+put-field-requires c κs = search needs
 
 enum-told-2 : tie.Need-enum-told-2
 enum-told-2 c = search needs
 
-write-verdict-requires : tie.Need-write-verdict-requires
-write-verdict-requires c κs = search needs
+put-verdict-requires : tie.Need-put-verdict-requires
+put-verdict-requires c κs = search needs
 
 enum-told-3 : tie.Need-enum-told-3
 enum-told-3 c = search needs
 
-write-verdict-requires-2 : tie.Need-write-verdict-requires-2
-write-verdict-requires-2 c κs = search needs
+put-verdict-requires-2 : tie.Need-put-verdict-requires-2
+put-verdict-requires-2 c κs = search needs
 
 enum-told-4 : tie.Need-enum-told-4
 enum-told-4 c = search needs
 
-write-verdict-requires-3 : tie.Need-write-verdict-requires-3
-write-verdict-requires-3 c κs = search needs
+put-verdict-requires-3 : tie.Need-put-verdict-requires-3
+put-verdict-requires-3 c κs = search needs
 
 returns : tie.Need-returns
 returns c = search needs
@@ -82,8 +82,8 @@ returns-3 c = search needs
 returns-4 : tie.Need-returns-4
 returns-4 c = search needs
 
-pub print-of-replay-spec : {M : Type 1} → statement M
-print-of-replay-spec =
+pub put-of-replay-spec : {M : Type 1} → statement M
+put-of-replay-spec =
     tie.close
     (tie.spec
     fresh-requires
@@ -99,14 +99,14 @@ print-of-replay-spec =
     replay-log-requires
     enum-told
     array-share-prefix-out
-    slice-aggregate-print-field
-    print-field-requires
+    slice-aggregate-put-field
+    put-field-requires
     enum-told-2
-    write-verdict-requires
+    put-verdict-requires
     enum-told-3
-    write-verdict-requires-2
+    put-verdict-requires-2
     enum-told-4
-    write-verdict-requires-3
+    put-verdict-requires-3
     returns
     returns-2
     returns-3

@@ -1,24 +1,27 @@
--- `batch::text::put_all` meets its contract.
+-- `showing::put_bytes` meets its contract.
 use Prim.Native.Nat.{_-_, _≤_}
 use borrow.Author.Needs.{needs}
 use lib.ListN.{length}
-use Rattle.batch.proofs.text.put_all.Statement.{statement}
-use Rattle.batch.proofs.text.put_all.Tie as tie
+use Rattle.showing.proofs.put_bytes.Statement.{statement}
+use Rattle.showing.proofs.put_bytes.Tie as tie
 
 abbrev Inv-loop : tie.InvT-loop
-Inv-loop text₀ start letters at₀ i₀ text at i = (at ≤ 4096) × (i ≤ length letters)
+Inv-loop text₀ start part at₀ i₀ text at i = i ≤ length part
 
 abbrev μ-loop : tie.MeasureT-loop
-μ-loop text₀ start letters at₀ i₀ text at i = length letters - i
+μ-loop text₀ start part at₀ i₀ text at i = length part - i
 
 loop-holds : tie.Need-loop-holds Inv-loop μ-loop
 loop-holds c = search needs
 
-shared-slice-read-put : tie.Need-shared-slice-read-put Inv-loop μ-loop
-shared-slice-read-put c = search needs
-
 put-requires : tie.Need-put-requires Inv-loop μ-loop
 put-requires c κs = search needs
+
+shared-slice-read-put-byte : tie.Need-shared-slice-read-put-byte Inv-loop μ-loop
+shared-slice-read-put-byte c = search needs
+
+put-byte-requires : tie.Need-put-byte-requires Inv-loop μ-loop
+put-byte-requires c κs = search needs
 
 add-i : tie.Need-add-i Inv-loop μ-loop
 add-i c = search needs
@@ -32,15 +35,16 @@ loop-again c = search needs
 returns : tie.Need-returns Inv-loop μ-loop
 returns c = search needs
 
-pub put-all-spec : {M : Type 1} → statement M
-put-all-spec =
+pub put-bytes-spec : {M : Type 1} → statement M
+put-bytes-spec =
     tie.close
     (tie.spec
     Inv-loop
     μ-loop
     loop-holds
-    shared-slice-read-put
     put-requires
+    shared-slice-read-put-byte
+    put-byte-requires
     add-i
     loop-less
     loop-again

@@ -1,14 +1,14 @@
--- `batch::text::put_verdict` meets its contract.
+-- `console::text::put_verdict` meets its contract.
 use Prim.Native.Nat.{_-_, _≤_}
 use Rattle.rules.proofs.Printing.{fits}
 use borrow.Author.Needs.{needs}
 use lib.Seq.{length-take-le}
 use mathlib.Core.Path.{sym}
-use Rattle.batch.proofs.text.put_verdict.Statement.{statement}
-use Rattle.batch.proofs.text.put_verdict.Tie as tie
+use Rattle.console.proofs.text.put_verdict.Statement.{statement}
+use Rattle.console.proofs.text.put_verdict.Tie as tie
 
 abbrev Inv-loop : tie.InvT-loop
-Inv-loop text₀ start letters numbers count at₀ i₀ text at i = (at ≤ 4096) × ((i ≤ count) × (count ≤ 4))
+Inv-loop text₀ start letters numbers count at₀ i₀ text at i = (i ≤ count) × (count ≤ 4)
 
 abbrev μ-loop : tie.MeasureT-loop
 μ-loop text₀ start letters numbers count at₀ i₀ text at i = count - i
@@ -28,7 +28,7 @@ put-all-requires : tie.Need-put-all-requires Inv-loop μ-loop
 put-all-requires c κs = search needs
 
 loop-holds : tie.Need-loop-holds Inv-loop μ-loop
-loop-holds c = (search needs, (search needs, fits (c .before .before .before .before .before .before .args .verdict) (c .before .before .before .before .before .printed .result) (c .before .before .before .before .before .printed .ensures) .numbers))
+loop-holds c = (search needs, fits (c .before .before .before .before .before .before .args .verdict) (c .before .before .before .before .before .printed .result) (c .before .before .before .before .before .printed .ensures) .numbers)
 
 mul-put-after-space : tie.Need-mul-put-after-space Inv-loop μ-loop
 mul-put-after-space c = search needs
