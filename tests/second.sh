@@ -18,7 +18,7 @@ $second vectors second/vectors/order-04.tsv
 $second check "$seed" 500
 $second compare "$seed" "$count" ./thawhazel batch
 $second shows "$seed" 60 ./thawhazel
-if $second --fault unset_selectors compare "$seed" 200 ./thawhazel batch >/dev/null; then
+if $second --fault unset_selectors compare "$seed" 200 ./thawhazel batch >/dev/null 2>&1; then
     echo "a planted fault was not found"
     exit 1
 fi
