@@ -9,8 +9,8 @@ use mathlib.Core.List.{List, [], _∷_}
 use mathlib.Core.Logic.{_⊎_, inl, inr}
 use mathlib.Core.Path.{_≡_, refl, sym, ap, subst, _∙_}
 use native.Mathlib.Omega.{arith}
-use Rattle.streams.specs.Answers.{stops}
-use Rattle.streams.specs.Reading.{AllGoOn, Call, Last, StopsBy, answer, brought, calls}
+use Rattle.streams.specs.Answers.{AllGoOn, calls, stops}
+use Rattle.streams.specs.Reading.{Call, Last, StopsBy, answer, answers, brought}
 use Rattle.streams.specs.declared.answers.Answer.{Answer}
 use Rattle.streams.specs.declared.answers.Answer.the-variants.{Moved, Nothing, Interrupted, Failed}
 use Rattle.streams.specs.declared.reading.Stop.{Stop}
@@ -21,7 +21,7 @@ pub same-bytes : (made : List Call) (xs ys : List ℕ) (m n : ℕ) → m ≤ len
 same-bytes made xs ys m n inside inside′ p q = (sym (length-take-le m xs inside) ∙ ap length (p ∙ sym q) ∙ length-take-le n ys inside′, p ∙ sym q)
 
 -- after an answer that stops nothing went on
-no-more : (a : Answer) (made : List Call) → stops a ≡ true → Last a made → AllGoOn made → ⊥
+no-more : (a : Answer) (made : List Call) → stops a ≡ true → Last a made → AllGoOn (answers made) → ⊥
 no-more a [] stop last on = absurd last
 no-more a (call ∷ earlier) stop last on = subst T (sym stop ∙ ap stops (sym (last .0)) ∙ on .0) tt
 

@@ -2,6 +2,8 @@
 -- Assumes nothing.
 use Prim.Native.Nat.{ℕ, zero, suc}
 use mathlib.Core.Bool.{Bool, true, false, cond}
+use mathlib.Core.List.{List, [], _∷_}
+use mathlib.Core.Path.{_≡_}
 use lib.Dec.{eqb}
 use lib.IntN.{ℤ, pos, negsuc}
 use Rattle.streams.specs.declared.answers.Answer.{Answer}
@@ -32,3 +34,12 @@ stops (Moved n) = false
 stops Nothing = true
 stops Interrupted = false
 stops Failed = true
+
+-- none of them stops
+abbrev pub AllGoOn : List Answer → Type 0
+AllGoOn [] = Unit {0}
+AllGoOn (a ∷ earlier) = (stops a ≡ false) × AllGoOn earlier
+
+-- the most calls that are made: an input or an output that takes them all has failed
+abbrev pub calls : ℕ
+calls = 0xffff_ffff_ffff_ffff

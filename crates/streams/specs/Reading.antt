@@ -7,7 +7,7 @@ use mathlib.Core.Logic.{_⊎_}
 use mathlib.Core.Path.{_≡_}
 use lib.IntN.{ℤ}
 use lib.ListN.{length, take}
-use Rattle.streams.specs.Answers.{answerOf, movedOf, stops}
+use Rattle.streams.specs.Answers.{AllGoOn, answerOf, calls, movedOf}
 use Rattle.streams.specs.declared.answers.Answer.{Answer}
 use Rattle.streams.specs.declared.answers.Answer.the-variants.{Moved, Nothing, Interrupted, Failed}
 use Rattle.streams.specs.declared.reading.Stop.{Stop}
@@ -27,25 +27,21 @@ abbrev pub brought : List Call → List ℕ
 brought [] = []
 brought (call ∷ earlier) = brought earlier ++ take (movedOf (answer call)) (call .part)
 
-abbrev pub AllGoOn : List Call → Type 0
-AllGoOn [] = Unit {0}
-AllGoOn (call ∷ earlier) = (stops (answer call) ≡ false) × AllGoOn earlier
+abbrev pub answers : List Call → List Answer
+answers [] = []
+answers (call ∷ earlier) = answer call ∷ answers earlier
 
 -- the answer that the latest call got
 abbrev pub Last : Answer → List Call → Type 0
 Last a [] = ⊥
-Last a (call ∷ earlier) = (answer call ≡ a) × AllGoOn earlier
-
--- the most calls that are made: the input that takes them all has failed
-abbrev pub calls : ℕ
-calls = 0xffff_ffff_ffff_ffff
+Last a (call ∷ earlier) = (answer call ≡ a) × AllGoOn (answers earlier)
 
 -- why no more was read, the room being the buffer's length. An end is one that a call answered, and before it there were only
 -- bytes and interrupted calls; a full buffer needs no end.
 abbrev pub StopsBy : Stop → ℕ → List Call → Type 0
-StopsBy Full room made = AllGoOn made × (length (brought made) ≡ room) × (length made < calls)
+StopsBy Full room made = AllGoOn (answers made) × (length (brought made) ≡ room) × (length made < calls)
 StopsBy Ended room made = Last Nothing made
-StopsBy Broken room made = Last Failed made ⊎ (AllGoOn made × (length made ≡ calls))
+StopsBy Broken room made = Last Failed made ⊎ (AllGoOn (answers made) × (length made ≡ calls))
 
 -- of an answer after which nothing more is read
 abbrev pub stopOf : Answer → Stop

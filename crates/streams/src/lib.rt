@@ -1,6 +1,5 @@
-// What a program reads from and writes to the system: a read that ends at an end that was seen, a write that is whole, and a line that
-// says what failed. The kit's `io::read_full` takes a failed read for the end, and `io` takes a call that a signal interrupted for
-// one that failed; here neither is so.
+// Reading that ends where the input's end was seen, and writing that is whole. The kit's `io::read_full` takes a read that failed for
+// the end, and `io` takes a call that a signal interrupted for one that failed; here neither is so.
 mod answers;
 mod reading;
 mod writing;

@@ -11,8 +11,8 @@ use mathlib.Core.Logic.{inl, inr}
 use mathlib.Core.List.{List, [], _∷_, _++_}
 use mathlib.Core.Path.{_≡_, refl, sym, subst, _∙_, ap}
 use native.Mathlib.Omega.{arith}
-use Rattle.streams.specs.Answers.{movedOf}
-use Rattle.streams.specs.Reading.{AllGoOn, Call, StopsBy, answer, brought, calls, stopOf}
+use Rattle.streams.specs.Answers.{AllGoOn, calls, movedOf}
+use Rattle.streams.specs.Reading.{Call, answers, brought}
 use mathlib.Core.Bool.{true, false}
 use mir.Syntax.{w32, w64}
 use mir.Val.{ofZ, toZ}
@@ -24,7 +24,7 @@ counts n xs h = (h, sym (length-take-le n xs h))
 
 abbrev Inv-loop : tie.InvT-loop
 Inv-loop fd bytes₀ length₀ counter₀ bytes count counter =
-    (counter ≤ calls) × (count ≤ length bytes) × (length bytes ≡ length bytes₀) × ((made : List Call) × (take count bytes ≡ brought made) × AllGoOn made × (length made ≡ counter))
+    (counter ≤ calls) × (count ≤ length bytes) × (length bytes ≡ length bytes₀) × ((made : List Call) × (take count bytes ≡ brought made) × AllGoOn (answers made) × (length made ≡ counter))
 
 abbrev μ-loop : tie.MeasureT-loop
 μ-loop fd bytes₀ length₀ counter₀ bytes count counter = calls - counter

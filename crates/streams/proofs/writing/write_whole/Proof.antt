@@ -1,11 +1,15 @@
 -- `streams::writing::write_whole` meets its contract.
 use Prim.Native.Nat.{ℕ, _+_, _-_, _≤_}
 use borrow.Rule.Slice.PartMut.{midOf}
-use mathlib.Core.Path.{sym, subst, _∙_, ap}
+use mathlib.Core.List.{List, [], _∷_}
+use mathlib.Core.Logic.{inl, inr}
+use mathlib.Core.Path.{_≡_, refl, sym, subst, _∙_, ap}
 use mir.Syntax.{w32}
 use mir.Val.{ofZ, toZ}
 use Rattle.streams.proofs.Bounds.{reaches, within-lent}
-use Rattle.streams.specs.Answers.{movedOf}
+use Rattle.streams.specs.Answers.{AllGoOn, calls, movedOf}
+use Rattle.streams.specs.Writing.{allMoved}
+use Rattle.streams.specs.declared.answers.Answer.{Answer}
 use borrow.Author.Needs.{needs}
 use lib.ListN.{length}
 use native.Mathlib.Omega.{arith}
@@ -13,16 +17,18 @@ use Rattle.streams.proofs.writing.write_whole.Statement.{statement}
 use Rattle.streams.proofs.writing.write_whole.Tie as tie
 
 abbrev Inv-loop : tie.InvT-loop
-Inv-loop fd bytes done₀ counter₀ done counter = (counter ≤ 0xffff_ffff_ffff_ffff) × (done ≤ length bytes)
+Inv-loop fd bytes done₀ counter₀ done counter = (counter ≤ calls) × (done ≤ length bytes) × ((got : List Answer) × (allMoved got ≡ done) × AllGoOn got × (length got ≡ counter))
 
 abbrev μ-loop : tie.MeasureT-loop
-μ-loop fd bytes done₀ counter₀ done counter = 0xffff_ffff_ffff_ffff - counter
+μ-loop fd bytes done₀ counter₀ done counter = calls - counter
 
 loop-holds : tie.Need-loop-holds Inv-loop μ-loop
-loop-holds c = search needs
+loop-holds c = (omega arith, omega arith, ([], refl, tt, refl))
 
 returns : tie.Need-returns Inv-loop μ-loop
-returns c = search needs
+returns c =
+    let inv = c .before .before .loop .inv in
+    (inv .2 .0, inv .2 .2, inv .2 .1 ∙ c .if1 .taken, omega (arith, inv .2 .3, c .before .loop-test .taken))
 
 sub-write : tie.Need-sub-write Inv-loop μ-loop
 sub-write c = search needs
@@ -46,7 +52,9 @@ is-last-requires : tie.Need-is-last-requires Inv-loop μ-loop
 is-last-requires c κs = search needs
 
 returns-2 : tie.Need-returns-2 Inv-loop μ-loop
-returns-2 c = search needs
+returns-2 c =
+    let inv = c .before .before .before .before .before .before .before .before .loop .inv in
+    (c .before .before .answer-of .result ∷ inv .2 .0, inl (sym (c .before .is-last .ensures) ∙ c .if2 .taken, inv .2 .2))
 
 moved-requires : tie.Need-moved-requires Inv-loop μ-loop
 moved-requires c κs = search needs
@@ -70,10 +78,15 @@ loop-less : tie.Need-loop-less Inv-loop μ-loop
 loop-less c = search needs
 
 loop-again : tie.Need-loop-again Inv-loop μ-loop
-loop-again c = (omega arith, moved-within c)
+loop-again c =
+    let inv = c .before .before .before .before .before .before .before .before .before .loop .inv in
+    let more = sym (c .before .before .is-last .ensures) ∙ c .before .if2 .left in
+    (omega arith, moved-within c, (c .before .before .before .answer-of .result ∷ inv .2 .0, omega (arith, inv .2 .1, c .moved .ensures), (more, inv .2 .2), omega (arith, inv .2 .3)))
 
 returns-3 : tie.Need-returns-3 Inv-loop μ-loop
-returns-3 c = search needs
+returns-3 c =
+    let inv = c .before .loop .inv in
+    (inv .2 .0, inr (inv .2 .2, inv .2 .3 ∙ omega arith))
 
 pub write-whole-spec : {M : Type 1} → statement M
 write-whole-spec =
