@@ -12,16 +12,16 @@ enum { ROUNDS = 101, RANDOM_MIXES = 100 };
 
 /* What is lent, with a spare place after each part. */
 typedef struct {
-    uint16_t pointers[THAWHAZEL_POINTERS_SIZE + 1], selectors[THAWHAZEL_SELECTORS_SIZE + 1];
-    uint32_t variables[THAWHAZEL_VARIABLES_SIZE + 1], numbers[THAWHAZEL_NUMBERS_SIZE + 1];
-    uint8_t status[THAWHAZEL_STATUS_SIZE + 1];
-    uint32_t tally[THAWHAZEL_TALLY_SIZE + 1], answer[THAWHAZEL_ANSWER_SIZE + 1];
+    uint16_t pointers[THAWHAZEL_POINTERS + 1], selectors[THAWHAZEL_SELECTORS + 1];
+    uint32_t variables[THAWHAZEL_VARIABLES + 1], numbers[THAWHAZEL_CELLS + 1];
+    uint8_t status[THAWHAZEL_CELLS + 1];
+    uint32_t tally[THAWHAZEL_TALLY + 1], answer[THAWHAZEL_ANSWER + 1];
 } Lent;
 
 static uint32_t judge_over(Judge *judge, Lent *l, const uint8_t *log, size_t length) {
-    return judge(log, length, l->pointers, THAWHAZEL_POINTERS_SIZE, l->selectors, THAWHAZEL_SELECTORS_SIZE, l->variables,
-                 THAWHAZEL_VARIABLES_SIZE, l->numbers, THAWHAZEL_NUMBERS_SIZE, l->status, THAWHAZEL_STATUS_SIZE, l->tally,
-                 THAWHAZEL_TALLY_SIZE, l->answer, THAWHAZEL_ANSWER_SIZE);
+    return judge(log, length, l->pointers, THAWHAZEL_POINTERS, l->selectors, THAWHAZEL_SELECTORS, l->variables,
+                 THAWHAZEL_VARIABLES, l->numbers, THAWHAZEL_CELLS, l->status, THAWHAZEL_CELLS, l->tally, THAWHAZEL_TALLY,
+                 l->answer, THAWHAZEL_ANSWER);
 }
 
 enum { PROVED, PLAIN, BY_VALUE, JUDGES };
@@ -89,7 +89,7 @@ static void compare(const Mix *mix, int repeats) {
 }
 
 static int check_random(Mix *mix) {
-    long kinds[5] = {0, 0, 0, 0, 0};
+    long kinds[4] = {0, 0, 0, 0};
     for (uint32_t seed = 1; seed <= RANDOM_MIXES; seed++) {
         make_random(mix, seed);
         if (!agree(mix, kinds)) return 0;
@@ -104,7 +104,7 @@ int main(void) {
     static const int repeats[] = {2, 2, 2, 4};
     if (!check_random(&mix)) return 1;
     for (int i = 0; i < 4; i++) {
-        long kinds[5] = {0, 0, 0, 0, 0};
+        long kinds[4] = {0, 0, 0, 0};
         make[i](&mix);
         if (!agree(&mix, kinds)) return 1;
         if (i < 3 && kinds[THAWHAZEL_ACCEPTED] != mix.count) return printf("%s: a log is not accepted\n", mix.name), 1;

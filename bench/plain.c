@@ -8,7 +8,7 @@ enum { UNSET = 1024, INVALID = 2048 };
 enum { CELLS = 1024, SELECTORS = 2 * CELLS, VARIABLES = 80, LOG_BYTES = 45056, LOG_FIELDS = 4096, LOG_MALLOCS = 1024 };
 enum { HEADER = 3, THREADS = 8, SHARED = 16, OWNED = 8, TAGS = 16 };
 enum { NEVER_USED, LIVE, FREED };
-enum { ACCEPTED, RACE, REFUSED, NO_ROOM, DECLINED, GO_ON };
+enum { ACCEPTED, RACE, REFUSED, NO_ROOM, GO_ON };
 
 static const uint8_t value_lengths[TAGS] = {0, 8, 2, 3, 4, 4, 3, 3, 6, 3, 3, 3, 3, 4, 4, 4};
 
@@ -27,7 +27,7 @@ typedef struct {
 static uint32_t decline(Run *run, uint32_t number) {
     run->answer[0] = number;
     run->answer[1] = 0;
-    return DECLINED;
+    return REFUSED;
 }
 
 static uint32_t refuse(Run *run, uint32_t number) {

@@ -1,14 +1,11 @@
 /* Thawhazel from C: a verified judge of logs of pointer commands.
  *
  * What a log is, what each command does and what each answer means is said in docs/01-scope.md; what each call returns and
- * leaves, for every input, is said in crates/capi/specs and proved. Link with libthawhazel.a, which tools/install.sh installs, or
- * with libcapi.a, the same archive, which `rt staticlib capi` writes to target/staticlib. The library keeps nothing between calls,
- * takes no memory, and calls nothing but memcpy and memset.
+ * leaves, for every input, is said in crates/capi/specs and proved. Link with libcapi.a, which `rt staticlib capi` writes to
+ * target/staticlib. The library keeps nothing between calls, takes no memory, and calls nothing but memcpy and memset.
  *
- * The short way is the heap of thawhazel_room and thawhazel_heap below, with thawhazel_judge_heap and thawhazel_replay_heap: such a
- * caller names no buffer, and a buffer that a later version adds asks only for compiling again. The plain calls, which the others
- * call, take every buffer as two arguments: a pointer to its first element, and its length in elements (not in bytes). A pointer is
- * never null, is aligned for its type, and points to that many elements; buffers of one call do not overlap. The proofs take this for
+ * Every buffer is two arguments: a pointer to its first element, and its length in elements (not in bytes). A pointer is never
+ * null, is aligned for its type, and points to that many elements; buffers of one call do not overlap. The proofs take this for
  * granted, as C cannot check it. A buffer of any length is safe to hand in: one that is too short gets the answer named below. */
 #ifndef THAWHAZEL_H
 #define THAWHAZEL_H
@@ -20,27 +17,19 @@
 extern "C" {
 #endif
 
-#define THAWHAZEL_VERSION "0.4.0"
-#define THAWHAZEL_VERSION_MAJOR 0
-#define THAWHAZEL_VERSION_MINOR 4
-#define THAWHAZEL_VERSION_PATCH 0
-
-/* How many elements each buffer must have. A longer one is fine: what lies past its size is never changed. */
+/* The size of each buffer, in elements. A longer one is fine: what lies past its size is never changed. */
 enum {
-    THAWHAZEL_POINTERS_SIZE = 80,    /* pointer variables */
-    THAWHAZEL_SELECTORS_SIZE = 2048, /* selector words: cell a has 2a and 2a + 1 */
-    THAWHAZEL_VARIABLES_SIZE = 80,   /* data variables */
-    THAWHAZEL_NUMBERS_SIZE = 1024,   /* the cells' data numbers */
-    THAWHAZEL_STATUS_SIZE = 1024,    /* the cells' status bytes */
-    THAWHAZEL_TALLY_SIZE = 3,        /* fields done, mallocs done, cells live */
-    THAWHAZEL_ANSWER_SIZE = 4,       /* the verdict's numbers */
-    THAWHAZEL_FIELD_SIZE = 7,        /* tag, thread, first, second, third, cell, number */
-    THAWHAZEL_READ_SIZE = 8,         /* these, and the byte offset of what was read */
-    THAWHAZEL_PART_SIZE = 2          /* where a field's bytes begin in a log, and how many they are */
+    THAWHAZEL_POINTERS = 80,    /* pointer variables */
+    THAWHAZEL_SELECTORS = 2048, /* selector words: cell a has 2a and 2a + 1 */
+    THAWHAZEL_VARIABLES = 80,   /* data variables */
+    THAWHAZEL_CELLS = 1024,     /* the cells' data numbers, and as many status bytes */
+    THAWHAZEL_TALLY = 3,        /* fields done, mallocs done, cells live */
+    THAWHAZEL_ANSWER = 4,       /* the verdict's numbers */
+    THAWHAZEL_FIELD = 7,        /* tag, thread, first, second, third, cell, number */
+    THAWHAZEL_READ = 8,         /* these, and the byte offset of what was read */
+    THAWHAZEL_LOG = 45056,      /* the most bytes that a log may have */
+    THAWHAZEL_FIELD_BYTES = 11  /* the most bytes that one field takes */
 };
-
-/* The most bytes that a log may have, and that one field takes. */
-enum { THAWHAZEL_LOG_BYTES_MAX = 45056, THAWHAZEL_FIELD_BYTES_MAX = 11 };
 
 /* A pointer word is a cell, 0 to 1023, or THAWHAZEL_UNSET; THAWHAZEL_INVALID is added where the pointer is not valid. */
 enum { THAWHAZEL_UNSET = 1024, THAWHAZEL_INVALID = 2048 };
@@ -52,12 +41,11 @@ enum { THAWHAZEL_NEVER_USED = 0, THAWHAZEL_LIVE = 1, THAWHAZEL_FREED = 2 };
 enum {
     THAWHAZEL_ACCEPTED = 0, /* fields, mallocs, live cells */
     THAWHAZEL_RACE = 1,     /* field, thread, variable, byte offset of the field */
-    THAWHAZEL_REFUSED = 2,  /* a refusal met at a field, 3 to 14: its number, field, byte offset of the field */
-    THAWHAZEL_NO_ROOM = 3,  /* none: `tally` has fewer than 3 places or `answer` fewer than 4, and nothing was looked at or changed */
-    THAWHAZEL_DECLINED = 4  /* a refusal met at no field, 1, 2 or 15: its number, 0 */
+    THAWHAZEL_REFUSED = 2,  /* the refusal's number, field, byte offset of the field; of 1, 2 and 15 only the number and 0 */
+    THAWHAZEL_NO_ROOM = 3   /* `tally` has fewer than 3 places or `answer` fewer than 4: nothing was looked at or changed */
 };
 
-/* The numbers of the refusals. Fields are numbered from 0. */
+/* The numbers of the refusals. Fields are numbered from 0; the field number of 1, 2 and 15 is 0. */
 enum {
     THAWHAZEL_LOG_TOO_LONG = 1,      /* log longer than 45,056 bytes: nothing else was changed */
     THAWHAZEL_BUFFER_TOO_SHORT = 2,  /* a heap buffer is shorter than its size: nothing else was changed */
@@ -73,12 +61,11 @@ enum {
     THAWHAZEL_UNSET_POINTER = 12,    /* a valid but unset pointer is gone through */
     THAWHAZEL_LIVE_CELL = 13,        /* malloc of a live cell */
     THAWHAZEL_ASSERTION_FAILS = 14,  /* an assertion does not hold */
-    THAWHAZEL_OUTPUT_TOO_SHORT = 15, /* what is to be written has no room: nothing else was changed */
-    THAWHAZEL_FIELD_NOT_REACHED = 16 /* a field to be shown: 3 to 11 stop, or the log ends, before it is read */
+    THAWHAZEL_OUTPUT_TOO_SHORT = 15  /* what is to be written has no room: nothing else was changed */
 };
 
-/* Judges a log from the fresh state, whatever the buffers hold: nothing needs to be set beforehand. Returns one of the five
- * kinds above. Afterwards the fronts of the five heap buffers hold the final heap and `tally` the fields done, the mallocs done
+/* Judges a log from the fresh state, whatever the buffers hold: nothing needs to be set beforehand. Returns one of the four kinds
+ * above. Afterwards the fronts of the five heap buffers hold the final heap and `tally` the fields done, the mallocs done
  * and the cells live, which is always the number of statuses equal to THAWHAZEL_LIVE: the state after the last field, or before the
  * field that raced or was refused. Refusals 1 and 2 change nothing but `answer`. */
 uint32_t thawhazel_judge(const uint8_t *log, size_t log_length,
@@ -117,63 +104,6 @@ uint32_t thawhazel_read_field(const uint8_t *part, size_t part_length, uint32_t 
  * looked at. */
 uint32_t thawhazel_write_field(const uint32_t *field, size_t field_length, uint8_t *out, size_t out_length, uint32_t *answer,
                                size_t answer_length);
-
-/* Finds the bytes of field `number`, from 0, of a log, which may be a recording or a replay. Returns 0, and the byte at which they begin
- * in part[0] and how many they are in part[1]: the field's own bytes, header and value, are log[part[0]] and those after it. It reads
- * by the reading checks alone, so that a field which races is found. Else returns the number of a refusal, 1 or 16, and changes
- * nothing. A `part` with fewer than 2 places gets 15, before anything else is looked at. */
-uint32_t thawhazel_show(const uint8_t *log, size_t log_length, uint32_t number, uint32_t *part, size_t part_length);
-
-/* ---- the same calls over one struct */
-
-/* Every buffer that is lent to the judge beside the answer, each of just its size. */
-typedef struct thawhazel_room {
-    uint16_t pointers[THAWHAZEL_POINTERS_SIZE];
-    uint16_t selectors[THAWHAZEL_SELECTORS_SIZE];
-    uint32_t variables[THAWHAZEL_VARIABLES_SIZE];
-    uint32_t numbers[THAWHAZEL_NUMBERS_SIZE];
-    uint8_t status[THAWHAZEL_STATUS_SIZE];
-    uint32_t tally[THAWHAZEL_TALLY_SIZE];
-} thawhazel_room;
-
-/* What is lent: where each buffer stands and how many elements it has. */
-typedef struct thawhazel_heap {
-    uint16_t *pointers;
-    size_t pointers_length;
-    uint16_t *selectors;
-    size_t selectors_length;
-    uint32_t *variables;
-    size_t variables_length;
-    uint32_t *numbers;
-    size_t numbers_length;
-    uint8_t *status;
-    size_t status_length;
-    uint32_t *tally;
-    size_t tally_length;
-} thawhazel_heap;
-
-/* A heap over a room:  static thawhazel_room room;  thawhazel_heap heap = THAWHAZEL_HEAP_INIT(room); */
-#define THAWHAZEL_HEAP_INIT(room)                                                                                                \
-    {                                                                                                                            \
-        (room).pointers, THAWHAZEL_POINTERS_SIZE, (room).selectors, THAWHAZEL_SELECTORS_SIZE, (room).variables,                  \
-            THAWHAZEL_VARIABLES_SIZE, (room).numbers, THAWHAZEL_NUMBERS_SIZE, (room).status, THAWHAZEL_STATUS_SIZE,              \
-            (room).tally, THAWHAZEL_TALLY_SIZE                                                                                   \
-    }
-
-/* thawhazel_judge, with THAWHAZEL_ANSWER_SIZE places at `answer`. */
-static inline uint32_t thawhazel_judge_heap(const uint8_t *log, size_t log_length, const thawhazel_heap *heap, uint32_t *answer) {
-    return thawhazel_judge(log, log_length, heap->pointers, heap->pointers_length, heap->selectors, heap->selectors_length,
-                           heap->variables, heap->variables_length, heap->numbers, heap->numbers_length, heap->status,
-                           heap->status_length, heap->tally, heap->tally_length, answer, THAWHAZEL_ANSWER_SIZE);
-}
-
-/* thawhazel_replay, with THAWHAZEL_ANSWER_SIZE places at `answer`. */
-static inline uint32_t thawhazel_replay_heap(const uint8_t *log, size_t log_length, uint8_t *out, size_t out_length,
-                                             const thawhazel_heap *heap, uint32_t *answer) {
-    return thawhazel_replay(log, log_length, out, out_length, heap->pointers, heap->pointers_length, heap->selectors,
-                            heap->selectors_length, heap->variables, heap->variables_length, heap->numbers, heap->numbers_length,
-                            heap->status, heap->status_length, heap->tally, heap->tally_length, answer, THAWHAZEL_ANSWER_SIZE);
-}
 
 #ifdef __cplusplus
 }

@@ -29,22 +29,18 @@ said() {
     [ "$status" -eq 2 ] && [ ! -s "$made/out" ] && grep -qxF "thawhazel: $2" "$made/err" || wrong "$1: status $status, $(head -c 200 "$made/out" "$made/err")"
 }
 
-for words in "" replay batch list "show 0" "show 0 replay"; do
+for words in "" replay batch "show 0" "show 0 replay"; do
     status=0 && ./thawhazel $words <examples >"$made/out" 2>"$made/err" || status=$?
     said "$words on a folder" "standard input: Is a directory"
     status=0 && ./thawhazel $words <&- >"$made/out" 2>"$made/err" || status=$?
     said "$words without standard input" "standard input: Bad file descriptor"
 done
 : >"$made/out"
-for words in "" list "show 0" "show 0 replay" examples/C.log "examples/C.log examples/L.log"; do
+for words in "" "show 0" "show 0 replay"; do
     status=0 && ./thawhazel $words <examples/C.log >/dev/full 2>"$made/err" || status=$?
     said "$words on a full disk" "standard output: No space left on device"
     status=0 && ./thawhazel $words <examples/C.log >&- 2>"$made/err" || status=$?
     said "$words without standard output" "standard output: Bad file descriptor"
-done
-for words in examples "list examples" "examples examples/"; do
-    status=0 && ./thawhazel $words >"$made/out" 2>"$made/err" || status=$?
-    said "$words, a folder" "examples: Is a directory"
 done
 
 status=0 && ./thawhazel replay <examples/L.log >/dev/full 2>"$made/err" || status=$?
@@ -74,8 +70,7 @@ loader=$made/kit/on/$(uname -m)/toolchain/lib/ld-linux-x86-64.so.2
 mkdir -p "$(dirname "$loader")" "$made/bin"
 cat >"$loader" <<END
 #!/bin/sh
-shift 2
-exec $emulator "$tools/lib/ld-linux-x86-64.so.2" --preload "$made/shim.so" --library-path "$tools/lib" "\$@"
+exec $emulator "$tools/lib/ld-linux-x86-64.so.2" --preload "$made/shim.so" --library-path "$tools/lib" "\$3" "\$4" "\$5"
 END
 cat >"$made/bin/rt" <<END
 #!/bin/sh
@@ -95,13 +90,9 @@ run() {
 # the last run printed what the undisturbed run printed
 undisturbed() { [ "$status" -eq "$status0" ] && cmp -s "$made/out" "$made/out0" && cmp -s "$made/err" "$made/err0"; }
 
-# the last run printed a front of that, and said why it went no further; of several files, some of the lines, and why not the others
+# the last run printed a front of that, and said why it went no further
 stopped() {
-    [ "$status" -eq 2 ] && grep -q '^thawhazel: ' "$made/err" || return 1
-    case $1 in
-    *.log\ *) ! grep -vxFf "$made/out0" "$made/out" ;;
-    *) cmp -s "$made/out" <(head -c "$(stat -c %s "$made/out")" "$made/out0") ;;
-    esac
+    [ "$status" -eq 2 ] && grep -q '^thawhazel: ' "$made/err" && cmp -s "$made/out" <(head -c "$(stat -c %s "$made/out")" "$made/out0")
 }
 
 # the calls of an undisturbed run, as "READS WRITES"
@@ -121,9 +112,9 @@ disturb() {
             for error in $errors; do
                 run "$kind $n $error" "$2" "$3"
                 tried=$((tried + 1))
-                undisturbed || stopped "$2" || wrong "$1, $kind $n fails ($error): status $status, $(head -c 200 "$made/out" "$made/err")"
+                undisturbed || stopped || wrong "$1, $kind $n fails ($error): status $status, $(head -c 200 "$made/out" "$made/err")"
                 # of a log that was not read whole nothing is told
-                [ "$kind $status" != "read 2" ] || [ "$2" = batch ] || [[ $2 == *.log\ * ]] || [ ! -s "$made/out" ] || wrong "$1, $kind $n fails ($error): a verdict all the same"
+                [ "$kind $status" != "read 2" ] || [ "$2" = batch ] || [ ! -s "$made/out" ] || wrong "$1, $kind $n fails ($error): a verdict all the same"
             done
         done
         for ((n = 0; n <= last; n++)); do
@@ -174,16 +165,13 @@ disturb "replay of L" replay examples/L.log
 disturb "replay of a large log" replay "$made/large"
 disturb "show" "show 3" examples/C.log
 disturb "show of the replay" "show 3 replay" examples/L.log
-disturb "list" list examples/C.log
-disturb "a file" examples/C.log /dev/null
-disturb "files" "examples/C.log examples/L.log examples/G.log" /dev/null
 disturb "batch" batch "$made/records"
 disturb "batch of a cut input" batch "$made/cut"
 
 # That this can fail: a read that wrongly says that the input has ended gives another answer.
 counted "" examples/C.log
 run "read 1 end" "" examples/C.log
-if undisturbed || stopped ""; then wrong "a planted fault was not found"; fi
+if undisturbed || stopped; then wrong "a planted fault was not found"; fi
 
 [ "$bad" -eq 0 ] || exit 1
 echo "faults: $tried runs where reading or writing went wrong gave the whole answer, or status 2 and a line that says why"

@@ -1,5 +1,5 @@
 #!/usr/bin/env python3
-"""field_edges.py: the records and the expected output of tests/edges/fields.c, made from docs/01-scope.md and document 02 alone.
+"""field_edges.py: the records and the expected output of crates/field_edges, made from docs/01-scope.md and document 02 alone.
 
     field_edges.py          compares the stored files with what is made, and says how many records agree
     field_edges.py --write  stores them
@@ -163,11 +163,11 @@ def make():
 
 
 make()
-made = {"fields.records": b"".join(records), "fields.expected": ("\n".join(lines) + "\n").encode()}
-folder = __file__.rsplit("/", 2)[0] + "/tests/edges/"
+made = {"stdin": b"".join(records), "stdout": ("\n".join(lines) + "\n").encode()}
+folder = __file__.rsplit("/", 2)[0] + "/crates/field_edges/"
 for name, data in made.items():
     if "--write" in sys.argv:
         open(folder + name, "wb").write(data)
     elif open(folder + name, "rb").read() != data:
-        sys.exit(f"tests/edges/{name} is not what the documents give")
+        sys.exit(f"crates/field_edges/{name} is not what the documents give")
 print(f"{len(records)} records at the edges of one field, with {len(set(lines))} different answers")

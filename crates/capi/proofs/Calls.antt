@@ -11,11 +11,10 @@ use Rattle.judge.specs.Judges.{Judges}
 use Rattle.judge.specs.Replays.{Replays}
 use Rattle.rules.specs.declared.Tally.{Tally}
 use Rattle.rules.specs.declared.Verdict.{Verdict}
-use Rattle.rules.specs.Judging.{Judged, Lent}
+use Rattle.rules.specs.Judging.{Judged}
 use Rattle.rules.specs.Replaying.{Replayed}
-use Rattle.capi.specs.Judging.{CallJudges, Given, Tells, answer_places, counts, has_room, judge_call, no_room, tally_in, tally_places, told}
-use Rattle.capi.specs.Fronts.{front}
-use Rattle.capi.specs.Replaying.{CallReplays, replay_call, replay_left}
+use Rattle.capi.specs.Judging.{Tells, answer_places, has_room, judge_call, left, no_room, tally_in, tally_places, told}
+use Rattle.capi.specs.Replaying.{replay_call, replay_left}
 
 -- ---- room in the tally and the answer
 pub room : (tally answer : List ℕ) → has_room tally answer ≡ true → (tally_places ≤ length tally) × (answer_places ≤ length answer)
@@ -24,30 +23,30 @@ room tally answer h =
     (leb-true tally_places (length tally) parts.0, leb-true answer_places (length answer) parts.1)
 
 -- ---- the calls
-module _ (log : List ℕ) (g : Given) where
-  pub judge-no-room : has_room g.tally g.answer ≡ false → CallJudges log g no_room g
+module _ (log pointers selectors variables numbers status tally answer : List ℕ) where
+  pub judge-no-room : has_room tally answer ≡ false → left no_room pointers selectors variables numbers status tally answer ≡ judge_call log pointers selectors variables numbers status tally answer
   unfolding judge_call
   judge-no-room h = rw h
 
-  pub judge-told : has_room g.tally g.answer ≡ true → (verdict : Verdict) (after : Lent) (returns : ℕ) (tally answer : List ℕ)
-      → Judges log g.heap verdict after → Tells verdict after.tally g.tally g.answer returns tally answer
-      → CallJudges log g returns (record { heap = after; tally = tally; answer = answer })
+  pub judge-told : has_room tally answer ≡ true → (before after : Tally) (verdict : Verdict) (returns : ℕ) (p' s' v' n' t' tally' answer' : List ℕ)
+      → before ≡ tally_in tally → Judges log pointers selectors variables numbers status before verdict after p' s' v' n' t'
+      → Tells verdict after tally answer returns tally' answer'
+      → left returns p' s' v' n' t' tally' answer' ≡ judge_call log pointers selectors variables numbers status tally answer
   unfolding judge_call
-  judge-told h verdict after returns tally answer judges tells =
-      rw (tells.kind, tells.done, tells.said, h) (ap (λ (j : Judged). told j.verdict j.after g) judges)
+  judge-told h before after verdict returns p' s' v' n' t' tally' answer' start judges tells =
+      rw (tells.kind, tells.done, tells.said, h)
+      (ap (λ (j : Judged). told j.verdict j.after tally answer) (rw start at judges))
 
-  module _ (out : List ℕ) where
-    pub replay-no-room : has_room g.tally g.answer ≡ false → CallReplays log out g no_room out g
-    unfolding replay_call
-    replay-no-room h = rw h
+module _ (log out pointers selectors variables numbers status tally answer : List ℕ) where
+  pub replay-no-room : has_room tally answer ≡ false → replay_left out (left no_room pointers selectors variables numbers status tally answer) ≡ replay_call log out pointers selectors variables numbers status tally answer
+  unfolding replay_call
+  replay-no-room h = rw h
 
-    pub replay-told : has_room g.tally g.answer ≡ true → (verdict : Verdict) (out' : List ℕ) (after : Lent) (returns : ℕ) (tally answer : List ℕ)
-        → Replays log out g.heap verdict out' after → Tells verdict after.tally g.tally g.answer returns tally answer
-        → CallReplays log out g returns out' (record { heap = after; tally = tally; answer = answer })
-    unfolding replay_call
-    replay-told h verdict out' after returns tally answer replays tells =
-        rw (tells.kind, tells.done, tells.said, h) (ap (λ (j : Replayed). replay_left j.output (told j.verdict j.after g)) replays)
-
--- the tally that the list tells, once the tally is put at its front
-pub tally_told : (after : Tally) (l l' : List ℕ) → l' ≡ front (counts after) l → tally_in l' ≡ after
-tally_told after l l' e = rw e
+  pub replay-told : has_room tally answer ≡ true → (before after : Tally) (verdict : Verdict) (returns : ℕ) (out' p' s' v' n' t' tally' answer' : List ℕ)
+      → before ≡ tally_in tally → Replays log out pointers selectors variables numbers status before verdict after out' p' s' v' n' t'
+      → Tells verdict after tally answer returns tally' answer'
+      → replay_left out' (left returns p' s' v' n' t' tally' answer') ≡ replay_call log out pointers selectors variables numbers status tally answer
+  unfolding replay_call
+  replay-told h before after verdict returns out' p' s' v' n' t' tally' answer' start replays tells =
+      rw (tells.kind, tells.done, tells.said, h)
+      (ap (λ (j : Replayed). replay_left j.output (told j.verdict j.after tally answer)) (rw start at replays))

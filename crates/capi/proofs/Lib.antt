@@ -2,5 +2,4 @@
 -- Assumes nothing.
 pub mod Calls
 pub mod OneField
-pub mod OneShowing
 pub mod OneResult

@@ -2,36 +2,26 @@
 -- Each contract is one equation between what the call leaves and a definition over what it was lent. Assumes nothing.
 use Prim.Native.Nat.{ℕ}
 use mathlib.Core.List.{List}
-use mathlib.Core.Path.{◌≡◌, ◌∙◌, ap, sym}
-use Rattle.capi.specs.Fields.{CallReads, CallWrites, ReadLeft, WriteLeft}
-use Rattle.capi.specs.Judging.{CallJudges, Given, Left}
-use Rattle.capi.specs.Replaying.{CallReplays, ReplayLeft}
-use Rattle.capi.specs.Showing.{CallShows, ShowLeft}
+use mathlib.Core.Path.{◌≡◌}
+use Rattle.fields.proofs.OneResult.{one_answer}
+use Rattle.capi.specs.Fields.{ReadLeft, WriteLeft, read_call, write_call}
+use Rattle.capi.specs.Judging.{Left, judge_call}
+use Rattle.capi.specs.Replaying.{ReplayLeft, replay_call}
 
-pub one_judgement : (log : List ℕ) (before : Given) (n n' : ℕ) (after after' : Given) → CallJudges log before n after → CallJudges log before n' after' → (n ≡ n') × (after ≡ after')
-one_judgement log before n n' after after' e e' =
-    let same = e ∙ sym e' in
-    (ap (λ (x : Left). x.returns) same, ap (λ (x : Left). x.after) same)
+pub one_judgement : (log pointers selectors variables numbers status tally answer : List ℕ) (x y : Left)
+    → x ≡ judge_call log pointers selectors variables numbers status tally answer
+    → y ≡ judge_call log pointers selectors variables numbers status tally answer
+    → x ≡ y
+one_judgement log pointers selectors variables numbers status tally answer = one_answer (judge_call log pointers selectors variables numbers status tally answer)
 
-pub one_replay : (log out : List ℕ) (before : Given) (n n' : ℕ) (o o' : List ℕ) (after after' : Given)
-    → CallReplays log out before n o after → CallReplays log out before n' o' after' → (n ≡ n') × (o ≡ o') × (after ≡ after')
-one_replay log out before n n' o o' after after' e e' =
-    let same = e ∙ sym e' in
-    (ap (λ (x : ReplayLeft). x.others.returns) same, ap (λ (x : ReplayLeft). x.output) same, ap (λ (x : ReplayLeft). x.others.after) same)
+pub one_replay : (log out pointers selectors variables numbers status tally answer : List ℕ) (x y : ReplayLeft)
+    → x ≡ replay_call log out pointers selectors variables numbers status tally answer
+    → y ≡ replay_call log out pointers selectors variables numbers status tally answer
+    → x ≡ y
+one_replay log out pointers selectors variables numbers status tally answer = one_answer (replay_call log out pointers selectors variables numbers status tally answer)
 
-pub one_showing : (log : List ℕ) (number : ℕ) (part : List ℕ) (n n' : ℕ) (p p' : List ℕ) → CallShows log number part n p → CallShows log number part n' p' → (n ≡ n') × (p ≡ p')
-one_showing log number part n n' p p' e e' =
-    let same = e ∙ sym e' in
-    (ap (λ (x : ShowLeft). x.returns) same, ap (λ (x : ShowLeft). x.part) same)
+pub one_reading : (part : List ℕ) (place : ℕ) (field : List ℕ) (x y : ReadLeft) → x ≡ read_call part place field → y ≡ read_call part place field → x ≡ y
+one_reading part place field = one_answer (read_call part place field)
 
-pub one_reading : (part : List ℕ) (place : ℕ) (field : List ℕ) (n n' : ℕ) (after after' : List ℕ) → CallReads part place field n after → CallReads part place field n' after'
-    → (n ≡ n') × (after ≡ after')
-one_reading part place field n n' after after' e e' =
-    let same = e ∙ sym e' in
-    (ap (λ (x : ReadLeft). x.returns) same, ap (λ (x : ReadLeft). x.field) same)
-
-pub one_writing : (field out answer : List ℕ) (n n' : ℕ) (o o' after after' : List ℕ) → CallWrites field out answer n o after → CallWrites field out answer n' o' after'
-    → (n ≡ n') × (o ≡ o') × (after ≡ after')
-one_writing field out answer n n' o o' after after' e e' =
-    let same = e ∙ sym e' in
-    (ap (λ (x : WriteLeft). x.returns) same, ap (λ (x : WriteLeft). x.output) same, ap (λ (x : WriteLeft). x.answer) same)
+pub one_writing : (field out answer : List ℕ) (x y : WriteLeft) → x ≡ write_call field out answer → y ≡ write_call field out answer → x ≡ y
+one_writing field out answer = one_answer (write_call field out answer)

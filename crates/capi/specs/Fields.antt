@@ -1,14 +1,14 @@
 -- The calls that read and write one field. In a list a field is its tag, thread, first, second, third, cell and number; what is read
 -- has the byte offset after them, a refusal too.
 -- Both return 0 or the number of a refusal; 15 where a list is too short, and then nothing was looked at or touched. Assumes nothing.
-use Rattle.std.specs.Prelude.{ℕ, leb, get_or, length, set, cond, ◌&&◌, List, ◌≡◌}
+use Rattle.std.specs.Prelude.{ℕ, leb, get_or, length, set, cond, ◌&&◌, List, [], ◌∷◌, ◌++◌}
 use Rattle.fields.specs.declared.Field.{Field}
 use Rattle.fields.specs.declared.Read.{Read}
 use Rattle.fields.specs.declared.Read.TheVariants as read
 use Rattle.fields.specs.declared.Refusal.TheVariants.{OutputTooShort}
 use Rattle.fields.specs.declared.Written.{Written}
 use Rattle.fields.specs.declared.Written.TheVariants as written
-use Rattle.fields.specs.Answers.{read_line, written_line}
+use Rattle.fields.specs.Numbers.{numbers_of}
 use Rattle.fields.specs.Read.{placed, read_field}
 use Rattle.fields.specs.Refusals.{number_of}
 use Rattle.fields.specs.Write.{write_field}
@@ -22,6 +22,9 @@ read_places = 8
 
 abbrev pub too_short : ℕ
 too_short = number_of OutputTooShort
+
+abbrev pub list_of : Field → List ℕ
+list_of f = f.tag ∷ numbers_of f
 
 -- a number that is too large for its type counts as the largest of the type: no row takes that one, so it is refused where the
 -- row has it, and ignored where not
@@ -45,17 +48,12 @@ pub record ReadLeft : Type 0 where
 abbrev pub read_left : ℕ → List ℕ → ReadLeft
 read_left returns field = record { returns = returns; field = field }
 
--- the values of the answer at the front of the list; of a refusal its byte offset alone, at the place where that of a field is
 abbrev pub read_told : Read → List ℕ → ReadLeft
-read_told (read.Got f offset) field = let told = read_line (read.Got f offset) in read_left told.number (front told.values field)
-read_told (read.Refused r offset) field = let told = read_line (read.Refused r offset) in read_left told.number (set field field_places (get_or told.values 1 0))
+read_told (read.Got f offset) field = read_left 0 (front (list_of f ++ (offset ∷ [])) field)
+read_told (read.Refused r offset) field = read_left (number_of r) (set field field_places offset)
 
 unfoldable pub read_call : List ℕ → ℕ → List ℕ → ReadLeft
 read_call part place field = cond (leb read_places (length field)) (read_told (placed place (read_field part)) field) (read_left too_short field)
-
--- the part, its place and the list of the field; and what is returned, and the list afterwards
-abbrev pub CallReads : List ℕ → ℕ → List ℕ → ℕ → List ℕ → Type 0
-CallReads part place field returns field' = read_left returns field' ≡ read_call part place field
 
 -- ---- writing: the number returned, the output, and the list whose front is the number of bytes written
 pub record WriteLeft : Type 0 where
@@ -67,15 +65,11 @@ abbrev pub write_left : ℕ → List ℕ → List ℕ → WriteLeft
 write_left returns output answer = record { returns = returns; output = output; answer = answer }
 
 abbrev pub write_told : Written → List ℕ → List ℕ → WriteLeft
-write_told (written.Bytes n) output answer = let told = written_line (written.Bytes n) in write_left told.number output (front told.values answer)
-write_told (written.Refused r) output answer = write_left (written_line (written.Refused r)).number output answer
+write_told (written.Bytes n) output answer = write_left 0 output (front (n ∷ []) answer)
+write_told (written.Refused r) output answer = write_left (number_of r) output answer
 
 unfoldable pub write_call : List ℕ → List ℕ → List ℕ → WriteLeft
 write_call field output answer =
     let w = write_field (field_in field) output in
     cond (leb field_places (length field) && leb 1 (length answer)) (write_told w.answer w.output answer)
     (write_left too_short output answer)
-
--- the list of the field, the output and the answer; and what is returned, and the output and the answer afterwards
-abbrev pub CallWrites : List ℕ → List ℕ → List ℕ → ℕ → List ℕ → List ℕ → Type 0
-CallWrites field output answer returns output' answer' = write_left returns output' answer' ≡ write_call field output answer

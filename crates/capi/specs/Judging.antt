@@ -8,12 +8,36 @@ use Rattle.rules.specs.Judging.{Lent, judge_log, lent}
 use Rattle.rules.specs.Verdicts.{line_of}
 use Rattle.capi.specs.Fronts.{front}
 
+-- the number returned, and the seven buffers
+pub record Left : Type 0 where
+  pub returns : ℕ
+  pub pointers : List ℕ
+  pub selectors : List ℕ
+  pub variables : List ℕ
+  pub numbers : List ℕ
+  pub status : List ℕ
+  pub tally : List ℕ
+  pub answer : List ℕ
+
+abbrev pub left : ℕ → List ℕ → List ℕ → List ℕ → List ℕ → List ℕ → List ℕ → List ℕ → Left
+left returns pointers selectors variables numbers status tally answer =
+    record {
+      returns = returns;
+      pointers = pointers;
+      selectors = selectors;
+      variables = variables;
+      numbers = numbers;
+      status = status;
+      tally = tally;
+      answer = answer;
+    }
+
 -- ---- what the calls return
 abbrev pub kind_of : Verdict → ℕ
 kind_of (Accepted fields mallocs live) = 0
 kind_of (Raced field thread variable offset) = 1
 kind_of (Refused r field offset) = 2
-kind_of (Declined r) = 4
+kind_of (Declined r) = 2
 
 -- the tally or the answer is too short, and nothing was looked at or touched
 abbrev pub no_room : ℕ
@@ -35,15 +59,12 @@ tally_in tally = record { fields = get_or tally 0 0; mallocs = get_or tally 1 0;
 abbrev pub counts : Tally → List ℕ
 counts t = t.fields ∷ t.mallocs ∷ t.live ∷ []
 
--- ---- what is lent to a call: the buffers and the tally that its list tells, that list, and the list of the answer
-pub record Given : Type 0 where
-  pub heap : Lent
-  pub tally : List ℕ
-  pub answer : List ℕ
-
-abbrev pub given : List ℕ → List ℕ → List ℕ → List ℕ → List ℕ → List ℕ → List ℕ → Given
-given pointers selectors variables numbers status tally answer =
-    record { heap = lent pointers selectors variables numbers status (tally_in tally); tally = tally; answer = answer }
+-- a verdict and what is lent, in numbers and lists: document 01's numbers as printed, at the front of the answer
+abbrev pub told : Verdict → Lent → List ℕ → List ℕ → Left
+told verdict after tally answer =
+    left (kind_of verdict) after.pointers after.selectors after.variables after.numbers after.status
+    (front (counts after.tally) tally)
+    (front (line_of verdict).numbers answer)
 
 -- what a call tells of a verdict and a tally: the number that it returns, and the tally and the answer, before and after
 pub record Tells (verdict : Verdict) (after : Tally) (tally answer : List ℕ) (returns : ℕ) (tally' answer' : List ℕ) : Type 0 where
@@ -51,25 +72,9 @@ pub record Tells (verdict : Verdict) (after : Tally) (tally answer : List ℕ) (
   pub done : tally' ≡ front (counts after) tally
   pub said : answer' ≡ front (line_of verdict).numbers answer
 
--- ---- the call: the number returned, and what is lent afterwards
-pub record Left : Type 0 where
-  pub returns : ℕ
-  pub after : Given
-
-abbrev pub left : ℕ → Given → Left
-left returns after = record { returns = returns; after = after }
-
--- a verdict and what is lent, in numbers and lists: document 01's numbers as printed, at the front of the answer
-abbrev pub told : Verdict → Lent → Given → Left
-told verdict after g =
-    left (kind_of verdict)
-    (record { heap = after; tally = front (counts after.tally) g.tally; answer = front (line_of verdict).numbers g.answer })
-
-unfoldable pub judge_call : List ℕ → Given → Left
-judge_call log g =
-    let end = judge_log log g.heap in
-    cond (has_room g.tally g.answer) (told end.verdict end.after g) (left no_room g)
-
--- what the call promises: the log, what was lent, the number returned, and what is lent afterwards
-abbrev pub CallJudges : List ℕ → Given → ℕ → Given → Type 0
-CallJudges log before returns after = left returns after ≡ judge_call log before
+-- ---- the call
+unfoldable pub judge_call : List ℕ → List ℕ → List ℕ → List ℕ → List ℕ → List ℕ → List ℕ → List ℕ → Left
+judge_call log pointers selectors variables numbers status tally answer =
+    let end = judge_log log (lent pointers selectors variables numbers status (tally_in tally)) in
+    cond (has_room tally answer) (told end.verdict end.after tally answer)
+    (left no_room pointers selectors variables numbers status tally answer)

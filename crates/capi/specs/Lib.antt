@@ -4,4 +4,3 @@ pub mod Fronts
 pub mod Judging
 pub mod Replaying
 pub mod Fields
-pub mod Showing

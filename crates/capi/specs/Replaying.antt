@@ -1,8 +1,9 @@
 -- The call that replays a log: the output afterwards, and all else as the call that judges leaves it.
 -- Assumes nothing.
-use Rattle.std.specs.Prelude.{ℕ, cond, List, ◌≡◌}
+use Rattle.std.specs.Prelude.{ℕ, cond, List}
+use Rattle.rules.specs.Judging.{lent}
 use Rattle.rules.specs.Replaying.{replay_log}
-use Rattle.capi.specs.Judging.{Given, Left, has_room, left, no_room, told}
+use Rattle.capi.specs.Judging.{Left, has_room, left, no_room, tally_in, told}
 
 pub record ReplayLeft : Type 0 where
   pub output : List ℕ
@@ -11,11 +12,8 @@ pub record ReplayLeft : Type 0 where
 abbrev pub replay_left : List ℕ → Left → ReplayLeft
 replay_left output others = record { output = output; others = others }
 
-unfoldable pub replay_call : List ℕ → List ℕ → Given → ReplayLeft
-replay_call log output g =
-    let end = replay_log log output g.heap in
-    cond (has_room g.tally g.answer) (replay_left end.output (told end.verdict end.after g)) (replay_left output (left no_room g))
-
--- what the call promises: the log, the output and what was lent; the number returned, the output and what is lent afterwards
-abbrev pub CallReplays : List ℕ → List ℕ → Given → ℕ → List ℕ → Given → Type 0
-CallReplays log output before returns output' after = replay_left output' (left returns after) ≡ replay_call log output before
+unfoldable pub replay_call : List ℕ → List ℕ → List ℕ → List ℕ → List ℕ → List ℕ → List ℕ → List ℕ → List ℕ → ReplayLeft
+replay_call log output pointers selectors variables numbers status tally answer =
+    let end = replay_log log output (lent pointers selectors variables numbers status (tally_in tally)) in
+    cond (has_room tally answer) (replay_left end.output (told end.verdict end.after tally answer))
+    (replay_left output (left no_room pointers selectors variables numbers status tally answer))

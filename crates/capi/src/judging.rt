@@ -1,6 +1,7 @@
 // The calls that judge and replay a log.
-ghost use Rattle.capi.specs.Judging.{CallJudges, given};
-ghost use Rattle.capi.specs.Replaying.{CallReplays};
+ghost use Rattle.std.specs.Prelude.{◌≡◌};
+ghost use Rattle.capi.specs.Judging.{judge_call, left};
+ghost use Rattle.capi.specs.Replaying.{replay_call, replay_left};
 
 use super::telling::{has_room, tally_in, tell};
 use judge::{judge_log, replay_log};
@@ -19,7 +20,7 @@ pub extern "C" fn thawhazel_judge(
     tally: &mut [u32],
     answer: &mut [u32],
 ) -> u32
-    ensures { CallJudges log.now (given pointers.old selectors.old variables.old numbers.old status.old tally.old answer.old) result (given pointers.new selectors.new variables.new numbers.new status.new tally.new answer.new) }
+    ensures { left result pointers.new selectors.new variables.new numbers.new status.new tally.new answer.new ≡ judge_call log.now pointers.old selectors.old variables.old numbers.old status.old tally.old answer.old }
 {
     if has_room(tally, answer) {
         let before = tally_in(tally);
@@ -41,7 +42,7 @@ pub extern "C" fn thawhazel_replay(
     tally: &mut [u32],
     answer: &mut [u32],
 ) -> u32
-    ensures { CallReplays log.now out.old (given pointers.old selectors.old variables.old numbers.old status.old tally.old answer.old) result out.new (given pointers.new selectors.new variables.new numbers.new status.new tally.new answer.new) }
+    ensures { replay_left out.new (left result pointers.new selectors.new variables.new numbers.new status.new tally.new answer.new) ≡ replay_call log.now out.old pointers.old selectors.old variables.old numbers.old status.old tally.old answer.old }
 {
     if has_room(tally, answer) {
         let before = tally_in(tally);

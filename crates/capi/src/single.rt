@@ -1,6 +1,6 @@
 // The calls that read and write one field.
 ghost use Rattle.std.specs.Prelude.{◌≡◌, ◌≤◌, length};
-ghost use Rattle.capi.specs.Fields.{CallReads, CallWrites, field_in};
+ghost use Rattle.capi.specs.Fields.{field_in, read_call, read_left, write_call, write_left};
 
 use super::fronts::{byte_of, pair_of, put_front};
 use fields::{Field, Read, RecordedCell, Refusal, Written, read_field, write_field};
@@ -30,7 +30,7 @@ fn field_in(field: &[u32]) -> Field
 
 #[unsafe(no_mangle)]
 pub extern "C" fn thawhazel_read_field(part: &[u8], place: u32, field: &mut [u32]) -> u32
-    ensures { CallReads part.now place field.old result field.new }
+    ensures { read_left result field.new ≡ read_call part.now place field.old }
 {
     if field.len() < READ {
         return Refusal::OutputTooShort.number() as u32;
@@ -59,7 +59,7 @@ pub extern "C" fn thawhazel_read_field(part: &[u8], place: u32, field: &mut [u32
 
 #[unsafe(no_mangle)]
 pub extern "C" fn thawhazel_write_field(field: &[u32], out: &mut [u8], answer: &mut [u32]) -> u32
-    ensures { CallWrites field.now out.old answer.old result out.new answer.new }
+    ensures { write_left result out.new answer.new ≡ write_call field.now out.old answer.old }
 {
     if field.len() < FIELD {
         return Refusal::OutputTooShort.number() as u32;

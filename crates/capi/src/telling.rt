@@ -17,9 +17,6 @@ const RACE: u32 = 1;
 
 const REFUSED: u32 = 2;
 
-// 3 says that there was no room to tell.
-const DECLINED: u32 = 4;
-
 pub fn has_room(tally: &[u32], answer: &[u32]) -> bool
     ensures { result ≡ has_room tally.now answer.now }
 {
@@ -47,7 +44,7 @@ fn kind_of(verdict: Verdict) -> u32
         Verdict::Accepted(_, _, _) => ACCEPTED,
         Verdict::Raced(_, _, _, _) => RACE,
         Verdict::Refused(_, _, _) => REFUSED,
-        Verdict::Declined(_) => DECLINED,
+        Verdict::Declined(_) => REFUSED,
     }
 }
 

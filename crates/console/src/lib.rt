@@ -1,43 +1,45 @@
-// What the commands share: text and how it is written, whether an input was read, what is said where that fails, and the word that
-// tells how it ended. No contract can say what is read or written; what the answers of the system mean is proved in `streams`, and
-// what is judged and how it is told in the crates below.
-mod endings;
+// What the programs share: whether the input was read, a text and how it is written, and the word that tells that all went well.
+// No contract can say what is read or written; what the answers of the system mean is proved in `streams`, and what is judged
+// and how it is told in the crates below.
 mod text;
 
 ghost use Rattle.streams.specs.Reading.{is_read};
 ghost use Rattle.std.specs.Prelude.{◌≡◌};
 
-pub use endings::{ACCEPTED, UNREAD, UNWRITTEN, ending_if, ending_of, tell, worse};
 use libc::{STDERR_FILENO, STDIN_FILENO};
 use streams::{Stop, is_full, read_into, write_whole};
 pub use text::{
-    ROOM, end_line, put, put_all, put_byte, put_labelled, put_number, put_verdict, write_front,
+    ROOM, end_line, put, put_after_space, put_all, put_byte, put_number, put_verdict, write_front,
 };
+
+// Where ./thawhazel listens for a word on how the program ended. A program that was started by hand has no such descriptor.
+const LAUNCHER: i32 = 3;
 
 // More chunks than any input has.
 const CHUNKS: u64 = 0xffff_ffff_ffff_ffff;
 
-fn say_front(text: &[u8], end: usize) {
-    if text.len() < end {
-        return;
-    }
-    os::fail(&text[..end]);
+// Says on standard error what failed and, by `errno`, why; and to the launcher that it was said.
+fn say_failed(what: &[u8]) {
+    os::fail(what);
+    write_whole(LAUNCHER, b"failed\n");
 }
 
-// Says on standard error what failed, which is the text before the end, and why, which `errno` tells. It is called right after the
-// call that failed.
-pub fn say_failed(text: &[u8; ROOM], end: usize) {
-    say_front(text, end);
+// Says why reading failed, right after it did.
+pub fn say_unread() {
+    say_failed(b"thawhazel: standard input");
 }
 
-// Whether reading stopped as it should.
+// Whether reading stopped as it should. Where not, a line on standard error says why.
 pub fn is_read(stop: Stop) -> bool
     ensures { result ≡ is_read stop }
 {
     match stop {
         Stop::Full => true,
         Stop::Ended => true,
-        Stop::Broken => false,
+        Stop::Broken => {
+            say_unread();
+            false
+        }
     }
 }
 
@@ -47,15 +49,15 @@ fn write_out(fd: i32, bytes: &[u8]) -> bool {
         return true;
     }
     if fd == STDERR_FILENO {
-        os::fail(b"thawhazel: standard error");
+        say_failed(b"thawhazel: standard error");
     } else {
-        os::fail(b"thawhazel: standard output");
+        say_failed(b"thawhazel: standard output");
     }
     false
 }
 
-// Reads what is left of standard input and drops it, so that whoever writes it is not cut off. The answer is out, and needs none of it.
-pub fn drain() {
+// What is left of standard input, read away, so that whoever writes it is not cut off. The answer is out, and needs none of it.
+fn drain() {
     let mut chunk = io::buffer();
     for _ in 0..CHUNKS {
         let read = read_into(STDIN_FILENO, &mut chunk);
@@ -64,4 +66,17 @@ pub fn drain() {
             return;
         }
     }
+}
+
+// Tells the launcher that everything was read and written whole. A program that fails never comes here.
+pub fn tell_whole() {
+    write_whole(LAUNCHER, b"whole\n");
+}
+
+// The end of a program that answered on one log.
+pub fn finish(stop: Stop) {
+    if is_full(stop) {
+        drain();
+    }
+    tell_whole();
 }

@@ -6,8 +6,7 @@ use super::write_out;
 use libc::STDOUT_FILENO;
 use rules::Verdict;
 
-// A file's name has at most 4,095 bytes: it fits, with what is said of it before it.
-pub const ROOM: usize = 8_192;
+pub const ROOM: usize = 4_096;
 
 const LOST: usize = ROOM + 1;
 
@@ -41,14 +40,9 @@ pub fn put_number(text: &mut [u8; ROOM], at: usize, number: u64) -> usize {
     put_all(text, at, &digits[..count])
 }
 
-// Letters, and a number right after them.
-pub fn put_labelled(text: &mut [u8; ROOM], start: usize, label: &[u8], number: u32) -> usize {
-    let at = put_all(text, start, label);
+pub fn put_after_space(text: &mut [u8; ROOM], start: usize, number: u32) -> usize {
+    let at = put(text, start, b' ');
     put_number(text, at, number as u64)
-}
-
-fn put_after_space(text: &mut [u8; ROOM], start: usize, number: u32) -> usize {
-    put_labelled(text, start, b" ", number)
 }
 
 // A byte as two hexadecimal digits.
@@ -72,8 +66,8 @@ pub fn put_verdict(text: &mut [u8; ROOM], start: usize, verdict: Verdict) -> usi
     at
 }
 
-// Writes the bytes before the end, and says whether it did. An end past the buffer's says that an earlier part of the text was not
-// written: then nothing is.
+// Writes the bytes before the end, and says whether it did. There is no end past the buffer's: of a text it says that one before
+// was not written.
 pub fn write_front(fd: i32, bytes: &[u8], end: usize) -> bool {
     if bytes.len() < end {
         return false;

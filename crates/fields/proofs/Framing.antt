@@ -16,10 +16,10 @@ use Rattle.fields.specs.declared.frame.Frame.{Frame}
 use Rattle.fields.specs.declared.frame.Frame.TheVariants.{Framed, Unframed}
 use Rattle.fields.specs.Order.{in_order}
 use Rattle.fields.specs.Bytes.{from_bytes, unpack}
-use Rattle.fields.specs.Rows.{is_present, length_of, row_of, width_if, widths_of, widths_by}
+use Rattle.fields.specs.Rows.{is_present, length_of, row_of, width_if, widths_of}
 use Rattle.fields.specs.Numbers.{field_with}
 use Rattle.fields.specs.Checks.{value_checks}
-use Rattle.fields.specs.Read.{Got, Reading, Refused, field_of, framing_checks, read_field, tag_in, value_in, field_by, read_by}
+use Rattle.fields.specs.Read.{Got, Reading, Refused, field_of, framing_checks, read_field, tag_in, value_in}
 use Rattle.fields.proofs.Digits.{byte_at}
 use Rattle.fields.proofs.Passing.{all-passed, in-order-append, in_order_map}
 
@@ -53,7 +53,7 @@ valued s (Framed tag) = let f = field_of tag (value_in s) in checked f (in_order
 valued s (Unframed r) = Refused r
 
 read_frame : (s : List ℕ) → read_field s ≡ valued s (framing s)
-unfolding read_by
+unfolding read_field
 read_frame s =
     let f = field_of (tag_in s) (value_in s) in
     in-order-append Refused (Got f) (framing_checks s) (value_checks (row_of (tag_in s)) f)
@@ -62,7 +62,7 @@ read_frame s =
 
 pub read_framed : (s v : List ℕ) (tag : ℕ) (r : Row) (f : Field) (k : Checked) → framing s ≡ Framed tag → r ≡ row_of tag → v ≡ value_in s
     → f ≡ field_with tag (unpack (widths_of r) v) → k ≡ in_order Failed Passed (value_checks r f) → checked f k ≡ read_field s
-unfolding field_by
+unfolding field_of
 read_framed s v tag r f k framed row value field check = rw (read_frame s, framed, check, field, value, row)
 
 pub read_unframed : (s : List ℕ) (r : Refusal) → framing s ≡ Unframed r → Refused r ≡ read_field s
@@ -77,6 +77,6 @@ pub read_numbers : (tag : ℕ) (r : Row) (v : List ℕ) (w₁ w₂ w₃ w₄ fir
     → cell ≡ from_bytes (take (width_if r.3 2) (drop (1 + w₁ + w₂ + w₃) v))
     → number ≡ from_bytes (take (width_if r.4 4) (drop (1 + w₁ + w₂ + w₃ + w₄) v))
     → field_with tag (get_or v 0 0 ∷ first ∷ second ∷ third ∷ cell ∷ number ∷ []) ≡ field_with tag (unpack (widths_of r) v)
-unfolding widths_by
+unfolding widths_of
 read_numbers tag r v w₁ w₂ w₃ w₄ first second third cell number some e₁ e₂ e₃ e₄ f s t c n =
     rw (f, s, t, c, n, e₁, e₂, e₃, e₄, sym (byte_at v 0 some)) (simp drop-drop)

@@ -4,11 +4,9 @@ pub mod Lists
 pub mod Passing
 pub mod Digits
 pub mod Framing
-pub mod Fetching
 pub mod Placing
 pub mod Tags
 pub mod Writing
 pub mod Packing
 pub mod RoundTrip
 pub mod OneResult
-pub mod Refusing

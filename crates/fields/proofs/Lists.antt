@@ -1,14 +1,13 @@
--- Lists: an element read within one, whatever is read past its end; a list stored over the front of another, place by place; and the part
--- of a list from a place on.
+-- Lists: an element read within one, whatever is read past its end; and a list stored over the front of another, place by place.
 -- Assumes nothing.
 use mathlib.Core.List.{List, [], ◌∷◌, ◌++◌}
 use mathlib.Core.Path.{◌≡◌, refl, ◌∙◌}
-use Prim.Native.Nat.{ℕ, zero, suc, ◌+◌, ◌-◌, ◌≤◌, ◌<◌}
+use Prim.Native.Nat.{ℕ, zero, suc, ◌+◌, ◌≤◌, ◌<◌}
 use native.Mathlib.Nat.{le_of_suc-le-suc, not-suc-le-zero, zero-add}
 use native.Mathlib.Numerals.{add-one}
 use native.Mathlib.Omega.{arith}
-use lib.ListN.{drop, drop_of_length-le, get_or, length, length-drop, set, take}
-use lib.Seq.{drop-cons, sets, sets-eq, take_all}
+use lib.ListN.{drop, drop_of_length-le, get_or, length, set}
+use lib.Seq.{drop-cons, sets, sets-eq}
 
 pub get_d_any : {A : Type 0} (l : List A) (i : ℕ) (d e : A) → i < length l → get_or l i d ≡ get_or l i e
 get_d_any [] i d e h = absurd (not-suc-le-zero h)
@@ -23,11 +22,3 @@ pub stored_end : (old now new : List ℕ) (i : ℕ) → length new ≤ length ol
 stored_end old now new i fits past e =
     let none : drop i new ≡ [] = drop_of_length-le new {i = i} past in
     (rw none at e) ∙ (rw (sets-eq new old 0 (omega arith), zero-add))
-
-module _ (l : List ℕ) (at : ℕ) (within : at < length l) where
-  pub some_left : 0 < length (drop at l)
-  some_left = rw length-drop (omega arith)
-
-  -- as code takes it, by its start and its end
-  pub part : take (length l - at) (drop at l) ≡ drop at l
-  part = take_all (length l - at) (drop at l) (simp length-drop (omega arith))

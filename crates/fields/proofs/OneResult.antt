@@ -4,21 +4,15 @@ use mathlib.Core.List.{List}
 use mathlib.Core.Path.{◌≡◌, ◌∙◌, ap, sym}
 use Prim.Native.Nat.{ℕ}
 use Rattle.fields.specs.declared.Field.{Field}
-use Rattle.fields.specs.declared.Read.{Read}
 use Rattle.fields.specs.declared.Written.{Written}
-use Rattle.fields.specs.Read.{Reads}
-use Rattle.fields.specs.Write.{Writes, Writing}
+use Rattle.fields.specs.Write.{Writing, write_field, writing}
 
--- of `read_field`
-pub one_reading : (part : List ℕ) (place : ℕ) (r r' : Read) → Reads part place r → Reads part place r' → r ≡ r'
-one_reading part place r r' e e' = e ∙ sym e'
-
--- of `write_field`
-pub one_writing : (f : Field) (out after after' : List ℕ) (w w' : Written) → Writes f out w after → Writes f out w' after' → (w ≡ w') × (after ≡ after')
-one_writing f out after after' w w' e e' =
-    let same = e ∙ sym e' in
-    (ap (λ (x : Writing). x.answer) same, ap (λ (x : Writing). x.output) same)
-
--- of `value_length`, `Refusal::number` and the functions `fresh`, whose contracts are equations of the whole answer with a definition
+-- of `read_field`, `value_length`, `Refusal::number` and `Log::fresh`, whose contracts are an equation of the answer
 pub one_answer : {A : Type 0} (said r r' : A) → r ≡ said → r' ≡ said → r ≡ r'
 one_answer said r r' e e' = e ∙ sym e'
+
+-- of `write_field`
+pub one_writing : (f : Field) (out after after' : List ℕ) (w w' : Written) → writing w after ≡ write_field f out → writing w' after' ≡ write_field f out → (w ≡ w') × (after ≡ after')
+one_writing f out after after' w w' e e' =
+    let same = one_answer (write_field f out) (writing w after) (writing w' after') e e' in
+    (ap (λ (x : Writing). x.answer) same, ap (λ (x : Writing). x.output) same)

@@ -20,33 +20,26 @@ use Rattle.fields.specs.declared.checks.Checked.TheVariants.{Passed, Failed}
 use Rattle.fields.specs.Every.{Every}
 use Rattle.fields.specs.Bytes.{pack}
 use Rattle.fields.specs.Order.{Test, in_order, test}
-use Rattle.fields.specs.Rows.{Form, Own, Under, thread_width, field_size, is_present, is_tag, length_of, row_of, width_if, widths_of, length_by, widths_by}
+use Rattle.fields.specs.Rows.{is_present, is_tag, length_of, row_of, width_if, widths_of}
 use Rattle.fields.specs.Numbers.{numbers_of}
 use Rattle.fields.specs.Checks.{value_checks}
-use Rattle.fields.specs.Write.{Writing, field_bytes, write_field, writing, writing_checks, bytes_by}
+use Rattle.fields.specs.Write.{Writing, field_bytes, write_field, writing, writing_checks}
 use Rattle.fields.proofs.Digits.{length-pack}
 use Rattle.fields.proofs.Passing.{Passes, all_pass, either, every_join, in-order-append, in_order_map}
 
-pub length-bytes_by : (form : Form) (f : Field) → length (bytes_by form f) ≡ 3 + length_by form f.tag
-unfolding bytes_by length_by
-length-bytes_by form f = omega (arith, length-pack (1 ∷ 2 ∷ widths_by form (row_of f.tag)) (f.tag ∷ length_by form f.tag ∷ numbers_of f))
-
-pub length-field_bytes : (f : Field) → length (field_bytes f) ≡ field_size f.tag
-length-field_bytes f = length-bytes_by Own f
+pub length-field_bytes : (f : Field) → length (field_bytes f) ≡ 3 + length_of f.tag
+unfolding field_bytes length_of
+length-field_bytes f = omega (arith, length-pack (1 ∷ 2 ∷ widths_of (row_of f.tag)) (f.tag ∷ length_of f.tag ∷ numbers_of f))
 
 -- a field's value has at most the thread, three slots, a cell and a number
 width_most : (there : Bool) (width : ℕ) → width_if there width ≤ width
 width_most there width = either (λ n. n ≤ width) there (omega arith) (omega arith)
 
-thread_most : (form : Form) → thread_width form ≤ 1
-thread_most Own = omega arith
-thread_most (Under t) = omega arith
-
-pub length_most : (form : Form) (tag : ℕ) → length_by form tag ≤ 10
-unfolding length_by widths_by
-length_most form tag =
+pub length_most : (tag : ℕ) → length_of tag ≤ 10
+unfolding length_of widths_of
+length_most tag =
     let r = row_of tag in
-    omega (arith, thread_most form, width_most (is_present r.0) 1, width_most (is_present r.1) 1, width_most (is_present r.2) 1, width_most r.3 2, width_most r.4 4)
+    omega (arith, width_most (is_present r.0) 1, width_most (is_present r.1) 1, width_most (is_present r.2) 1, width_most r.3 2, width_most r.4 4)
 
 module _ (f : Field) (out : List ℕ) where
   abbrev pub refused : Refusal → Writing
@@ -80,12 +73,12 @@ module _ (f : Field) (out : List ℕ) where
   unfolding write_field
   write-unknown e = rw e
 
-  pub room-short : length out < field_size f.tag → refused OutputTooShort ≡ settled Passed
+  pub room-short : length out < 3 + length_of f.tag → refused OutputTooShort ≡ settled Passed
   room-short h = rw (lt-leb (length (field_bytes f)) (length out) (omega (arith, length-field_bytes f)))
 
   pub room-enough : (r : Row) (n : ℕ) (l : List ℕ) → r ≡ row_of f.tag → n ≡ length_of f.tag → 3 + n ≤ length out
       → l ≡ sets out 0 (pack (1 ∷ 2 ∷ widths_of r) (f.tag ∷ n ∷ numbers_of f)) → writing (Bytes (3 + n)) l ≡ settled Passed
-  unfolding bytes_by
+  unfolding field_bytes
   room-enough r n l row size h put =
       let m = length-field_bytes f in
       rw (put, row, size, le-leb (length (field_bytes f)) (length out) (omega arith), sets-eq (field_bytes f) out 0 (omega arith), zero-add, m)

@@ -11,4 +11,3 @@ pub mod Numbers
 pub mod Checks
 pub mod Read
 pub mod Write
-pub mod Answers

@@ -30,7 +30,7 @@ unfoldable pub itself : Field → Field
 itself f = field_with f.tag (present (widths_of (row_of f.tag)) (numbers_of f))
 
 -- a field as code holds one: each number within its type
-pub record InTypes (f : Field) : Type 0 where
+pub record Held (f : Field) : Type 0 where
   pub first : f.first < 256
   pub second : f.second < 256
   pub third : f.third < 256

@@ -1,11 +1,10 @@
--- The table of tags: one line for each, in the order thread, slots, cell, number. The thread stands in every row, so no line says it:
--- where its byte is, the form of the log says. Assumes nothing.
-use Rattle.std.specs.Prelude.{ℕ, ◌+◌, Bool, true, false, cond, ◌&&◌, List, [], ◌∷◌, ltb, get_or, length}
+-- The table of tags: one line for each, in the order thread, slots, cell, number. The thread stands in every row, so no line says it.
+-- Assumes nothing.
+use Rattle.std.specs.Prelude.{ℕ, Bool, true, false, cond, ◌&&◌, List, [], ◌∷◌, ltb, get_or, length}
 use Rattle.fields.specs.declared.rows.Slot.{Slot}
 use Rattle.fields.specs.declared.rows.Slot.TheVariants.{Absent, Pointer, Data, Selector}
 use Rattle.fields.specs.declared.rows.Row.{Row}
 use Rattle.fields.specs.Bytes.{total}
-use Rattle.fields.specs.Limits.{header_bytes}
 
 abbrev pub row : Slot → Slot → Slot → Bool → Bool → Row
 row first second third cell number = record { 0 = first; 1 = second; 2 = third; 3 = cell; 4 = number }
@@ -74,19 +73,10 @@ is_present Selector = true
 abbrev pub width_if : Bool → ℕ → ℕ
 width_if there width = cond there width 0
 
--- where a field's thread is: in its own value, or in force before it, in a log of thread runs (order 9)
-pub data Form : Type 0 where
-  Own : Form
-  Under : ℕ → Form
-
-abbrev pub thread_width : Form → ℕ
-thread_width Own = 1
-thread_width (Under thread) = 0
-
 -- the widths of a value's numbers: thread, slots, cell (2), number (4)
-unfoldable pub widths_by : Form → Row → List ℕ
-widths_by form r =
-    thread_width form
+unfoldable pub widths_of : Row → List ℕ
+widths_of r =
+    1
     ∷ width_if (is_present r.0) 1
     ∷ width_if (is_present r.1) 1
     ∷ width_if (is_present r.2) 1
@@ -94,16 +84,5 @@ widths_by form r =
     ∷ width_if r.4 4
     ∷ []
 
-unfoldable pub length_by : Form → ℕ → ℕ
-length_by form tag = total (widths_by form (row_of tag))
-
--- document 01's form, whose fields have their own thread
-abbrev pub widths_of : Row → List ℕ
-widths_of r = widths_by Own r
-
-abbrev pub length_of : ℕ → ℕ
-length_of tag = length_by Own tag
-
--- the bytes of a field, header and value
-abbrev pub field_size : ℕ → ℕ
-field_size tag = header_bytes + length_of tag
+unfoldable pub length_of : ℕ → ℕ
+length_of tag = total (widths_of (row_of tag))

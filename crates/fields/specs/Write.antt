@@ -1,6 +1,6 @@
 -- Writing one field: its 3 header bytes and value at the front of an output, whose rest keeps its bytes.
 -- The checks are, in order, 5, 7, 8, 9, 10, 15; a refusal leaves the output as it was. Assumes nothing.
-use Rattle.std.specs.Prelude.{ℕ, List, [], ◌∷◌, ◌++◌, ◌≡◌, leb, length, drop}
+use Rattle.std.specs.Prelude.{ℕ, List, [], ◌∷◌, ◌++◌, leb, length, drop}
 use Rattle.fields.specs.declared.Field.{Field}
 use Rattle.fields.specs.declared.Refusal.{Refusal}
 use Rattle.fields.specs.declared.Refusal.TheVariants.{UnknownTag, OutputTooShort}
@@ -8,7 +8,7 @@ use Rattle.fields.specs.declared.Written.{Written}
 use Rattle.fields.specs.declared.Written.TheVariants.{Bytes, Refused}
 use Rattle.fields.specs.Order.{Test, test, in_order}
 use Rattle.fields.specs.Bytes.{pack}
-use Rattle.fields.specs.Rows.{Form, Own, row_of, is_tag, widths_by, length_by}
+use Rattle.fields.specs.Rows.{row_of, is_tag, widths_of, length_of}
 use Rattle.fields.specs.Numbers.{numbers_of}
 use Rattle.fields.specs.Checks.{value_checks}
 
@@ -20,12 +20,8 @@ pub record Writing : Type 0 where
 abbrev pub writing : Written → List ℕ → Writing
 writing w out = record { answer = w; output = out }
 
-unfoldable pub bytes_by : Form → Field → List ℕ
-bytes_by form f = pack (1 ∷ 2 ∷ widths_by form (row_of f.tag)) (f.tag ∷ length_by form f.tag ∷ numbers_of f)
-
--- document 01's form
-abbrev pub field_bytes : Field → List ℕ
-field_bytes f = bytes_by Own f
+unfoldable pub field_bytes : Field → List ℕ
+field_bytes f = pack (1 ∷ 2 ∷ widths_of (row_of f.tag)) (f.tag ∷ length_of f.tag ∷ numbers_of f)
 
 abbrev pub writing_checks : Field → ℕ → List (Test Refusal)
 writing_checks f room =
@@ -37,7 +33,3 @@ unfoldable pub write_field : Field → List ℕ → Writing
 write_field f out =
     let bytes = field_bytes f in
     in_order (λ r. writing (Refused r) out) (writing (Bytes (length bytes)) (bytes ++ drop (length bytes) out)) (writing_checks f (length out))
-
--- what writing promises: the field and the output, and the answer and the output afterwards
-abbrev pub Writes : Field → List ℕ → Written → List ℕ → Type 0
-Writes f out w out' = writing w out' ≡ write_field f out

@@ -2,7 +2,7 @@
 ghost use Rattle.std.specs.Prelude.{◌≡◌, ◌≤◌, length};
 ghost use Rattle.fields.specs.Bytes.{total, unpack};
 ghost use Rattle.fields.specs.Numbers.{field_with};
-ghost use Rattle.fields.specs.Read.{Reads};
+ghost use Rattle.fields.specs.Read.{placed, read_field};
 ghost use Rattle.fields.specs.Rows.{widths_of};
 
 use super::checks::{Checked, check_value};
@@ -34,7 +34,7 @@ fn field_of(tag: u8, row: Row, value: &[u8]) -> Field
 
 // One field at the front of a part that stands at this place of a log, or why it cannot be read. Nothing is changed.
 pub fn read_field(part: &[u8], place: u32) -> Read
-    ensures { Reads part.now place result }
+    ensures { result ≡ placed place (read_field part.now) }
 {
     match frame_of(part) {
         Frame::Framed(tag) => {

@@ -5,7 +5,7 @@ ghost use Rattle.std.proofs.lemmas.List.Edits.{sets};
 ghost use Rattle.fields.specs.Bytes.{pack, to_bytes, total};
 ghost use Rattle.fields.specs.Numbers.{numbers_of};
 ghost use Rattle.fields.specs.Rows.{widths_of};
-ghost use Rattle.fields.specs.Write.{Writes};
+ghost use Rattle.fields.specs.Write.{write_field, writing};
 
 use super::checks::{Checked, check_value};
 use super::rows::{Row, is_tag, row_of, slot_width, value_length, width_if};
@@ -69,7 +69,7 @@ fn put_field(row: Row, field: Field, bytes: u8, out: &mut [u8])
 
 // The field's header and value at the front of the output, whose rest keeps its bytes. A refusal leaves it untouched.
 pub fn write_field(field: Field, out: &mut [u8]) -> Written
-    ensures { Writes field out.old result out.new }
+    ensures { writing result out.new ≡ write_field field out.old }
 {
     if is_tag(field.tag) {
         let row = row_of(field.tag);

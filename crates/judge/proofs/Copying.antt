@@ -1,26 +1,17 @@
 -- The copy of one field, as it is written over the output, and what is left to be copied.
 -- Assumes nothing.
-use Prim.Native.Nat.{ℕ, suc, ◌+◌, ◌-◌, ◌<◌, ◌≤◌}
-use borrow.Author.Tests.{lt-ltb}
-use lib.Dec.{ltb}
-use lib.ListN.{drop, length, length-append, length-drop, take}
-use lib.Seq.{drop-append-add, drop-drop, length-take-le, take_at}
-use mathlib.Core.Bool.{Bool, true, false}
-use mathlib.Core.List.{List, [], ◌∷◌, ◌++◌, append_assoc}
-use mathlib.Core.Path.{◌≡◌, refl, ap, sym, ◌∙◌}
-use native.Mathlib.Nat.{not-suc-le-zero}
-use native.Mathlib.Omega.{arith}
-use Rattle.fields.proofs.Fetching.{fetched}
-use Rattle.fields.proofs.Lists.{some_left}
+use Rattle.std.proofs.Common.{◌≡◌, ℕ, suc, ◌+◌, ◌-◌, ◌<◌, ◌≤◌, Bool, true, false, ltb, List, [], ◌∷◌, ◌++◌, length, take, drop, sym, refl, ap, ◌∙◌, append_assoc, append-nil, not-suc-le-zero, arith, length-append, length-drop, drop_of_length-le, length-take-le, drop-drop, take_at, lt-ltb}
+use lib.Seq.{drop-append-add}
 use Rattle.fields.proofs.Passing.{Passes}
 use Rattle.fields.proofs.Writing.{length-field_bytes, writes}
 use Rattle.fields.specs.declared.Field.{Field}
+use Rattle.fields.specs.declared.Written.{Written}
 use Rattle.fields.specs.Checks.{is_cell, value_checks}
 use Rattle.fields.specs.Every.{Every}
-use Rattle.fields.specs.Limits.{cells}
+use Rattle.fields.specs.Limits.{cells, header_bytes}
 use Rattle.fields.specs.Read.{Got, read_field}
-use Rattle.fields.specs.Rows.{field_size, row_of}
-use Rattle.fields.specs.Write.{field_bytes}
+use Rattle.fields.specs.Rows.{length_of, row_of}
+use Rattle.fields.specs.Write.{Writing, field_bytes, write_field, writing}
 use Rattle.rules.proofs.Checks.{Clear, each-stops, passed_by, race-stops}
 use Rattle.rules.specs.declared.Answer.TheVariants.{Go, Race}
 use Rattle.rules.specs.declared.Change.{Change}
@@ -29,27 +20,26 @@ use Rattle.rules.specs.Acts.{gives, touched}
 use Rattle.rules.specs.Check.{check, each, room_for, valid}
 use Rattle.rules.specs.Commands.{act_of}
 use Rattle.rules.specs.Effect.{effect}
-use Rattle.rules.specs.Replay.{Matching, copy_change, copy_field, next_cell, recast, rematched}
+use Rattle.rules.specs.Replay.{copy_change, copy_field, next_cell, recast}
 use Rattle.rules.specs.State.{State}
-use Rattle.copies.specs.Copied.{copied_at}
-use Rattle.effects.specs.Held.{Held}
-use Rattle.judge.specs.Replays.{replay_from}
+use Rattle.judge.specs.Replays.{copied_at, replay_from}
 use Rattle.judge.specs.Steps.{Step, step_of}
+use Rattle.judge.proofs.Running.{got_passed, part, some_left}
 
 -- ---- a command that goes has a malloc left for the cell that it gives out, so its copy passes the checks that the field passed
 cell-right : (there : Bool) (c : ℕ) → ltb c cells ≡ true → is_cell there c ≡ true
 cell-right true c h = h
 cell-right false c h = refl
 
-module _ (s : State) (m : Matching) (f : Field) (right : Every Passes (value_checks (row_of f.tag) f)) where
-  right_by : (c : Change) → Clear (room_for s) (gives c) → Every Passes (value_checks (row_of f.tag) (recast (copy_change s m (next_cell s) c) f))
+module _ (s : State) (f : Field) (right : Every Passes (value_checks (row_of f.tag) f)) where
+  right_by : (c : Change) → Clear (room_for s) (gives c) → Every Passes (value_checks (row_of f.tag) (recast (copy_change s (next_cell s) c) f))
   right_by Stay h = right
   right_by (Allocate p c d) h = (right.0, (right.1.0, (right.1.1.0, (cell-right (row_of f.tag).3 s.mallocs h.0, tt))))
   right_by (Release p) h = right
   right_by (Move x y) h = right
   right_by (Put x v) h = right
 
-  copy-right : check (act_of f) s ≡ Go → Every Passes (value_checks (row_of f.tag) (copy_field s m (next_cell s) f))
+  copy-right : check (act_of f) s ≡ Go → Every Passes (value_checks (row_of f.tag) (copy_field s (next_cell s) f))
   copy-right e =
       let a = act_of f in
       right_by a.change (passed_by (each (valid s) Race (touched a)) a s (each-stops (valid s) Race (touched a) race-stops) e).room
@@ -79,53 +69,57 @@ module _ (out bytes : List ℕ) (at : ℕ) (room : at + length bytes ≤ length 
   spliced : (rest : List ℕ) (end : ℕ) → at + length bytes ≤ end → take (at + length bytes) after ++ (rest ++ drop end after) ≡ take at out ++ ((bytes ++ rest) ++ drop end out)
   spliced rest end past = rw (written-front, written-rest end past) (simp append_assoc)
 
+-- the output as the code leaves it, which writes in a part of it
+pub copied_at_lem : (out : List ℕ) (at : ℕ) → at < length out → (copy f : Field) → copy ≡ f → (answer : Written) (bytes : List ℕ) → writing answer bytes ≡ write_field copy (take (length out - at) (drop at out))
+    → take at out ++ (bytes ++ drop (length out - at) (drop at out)) ≡ copied_at at f out
+unfolding copied_at
+copied_at_lem out at within copy f same answer bytes put =
+    let laid : bytes ≡ (write_field f (drop at out)).output = ap (λ (w : Writing). w.output) (rw (part out at within, same) at put) in
+    rw (lt-ltb at (length out) within, laid, drop-drop, drop_of_length-le out {i = at + (length out - at)} (omega arith), append-nil)
+
 -- ---- the replay, by what is read at the front of the bytes
-replay_got : (n : ℕ) (b : List ℕ) (s : State) (m : Matching) (f : Field) → 0 < length b → read_field b ≡ Got f
-    → replay_from (suc n) b s m
-    ≡ field_bytes (copy_field s m (next_cell s) f) ++ replay_from n (drop (field_size f.tag) b) (effect (act_of f) s) (rematched f (copy_field s m (next_cell s) f) m)
+replay_got : (n : ℕ) (b : List ℕ) (s : State) (f : Field) → 0 < length b → read_field b ≡ Got f
+    → replay_from (suc n) b s ≡ field_bytes (copy_field s (next_cell s) f) ++ replay_from n (drop (header_bytes + length_of f.tag) b) (effect (act_of f) s)
 unfolding replay_from
-replay_got n [] s m f some e = absurd (not-suc-le-zero some)
-replay_got n (x ∷ b) s m f some e = rw e
+replay_got n [] s f some e = absurd (not-suc-le-zero some)
+replay_got n (x ∷ b) s f some e = rw e
 
 -- ---- one field that goes, at a place of the log
 -- the output as it comes to be: what is written up to a place of the log, the replay from there, and what is held past the log
-unfoldable pub output_from : ℕ → List ℕ → ℕ → State → Matching → List ℕ → List ℕ
-output_from n log at s m out = take at out ++ (replay_from n (drop at log) s m ++ drop (length log) out)
+unfoldable pub output_from : ℕ → List ℕ → ℕ → State → List ℕ → List ℕ
+output_from n log at s out = take at out ++ (replay_from n (drop at log) s ++ drop (length log) out)
 
 module _ (l : List ℕ) (at : ℕ) (within : at < length l) (f : Field) (read : read_field (drop at l) ≡ Got f)
-    (h : Held) (m : Matching) (step : Step) (stepped : step ≡ step_of (act_of f) h) (goes : step.answer ≡ Go) (out : List ℕ) (room : length l ≤ length out) where
-  abbrev s : State
-  s = h.state
-
+    (s : State) (step : Step) (stepped : step ≡ step_of (act_of f) s) (goes : step.answer ≡ Go) (out : List ℕ) (room : length l ≤ length out) where
   abbrev size : ℕ
-  size = field_size f.tag
+  size = header_bytes + length_of f.tag
 
   abbrev copy : Field
-  copy = copy_field s m (next_cell s) f
+  copy = copy_field s (next_cell s) f
 
   passed : check (act_of f) s ≡ Go
   unfolding step_of
   passed = sym (ap (λ (x : Step). x.answer) stepped) ∙ goes
 
-  done : step.held.state ≡ effect (act_of f) s
+  done : step.state ≡ effect (act_of f) s
   unfolding step_of
   done = rw (stepped, passed)
 
   fits : at + size ≤ length l
-  fits = omega (arith, (fetched (drop at l) f read).fits, length-drop at l)
+  fits = omega (arith, (got_passed (drop at l) f read).fits, length-drop at l)
 
   laid : copied_at at copy out ≡ take at out ++ (field_bytes copy ++ drop (length (field_bytes copy)) (drop at out))
   unfolding copied_at
   laid =
-      let p = fetched (drop at l) f read in
-      let w = writes copy (drop at out) p.known (copy-right s m f p.right passed) (omega (arith, length-field_bytes copy, length-drop at out, fits)) in
+      let p = got_passed (drop at l) f read in
+      let w = writes copy (drop at out) p.known (copy-right s f p.right passed) (omega (arith, length-field_bytes copy, length-drop at out, fits)) in
       rw (lt-ltb at (length out) (omega arith), w)
 
   -- what is then still to be written gives the same output
-  pub copy_got : (n : ℕ) → output_from n l (at + size) step.held.state (rematched f copy m) (copied_at at copy out) ≡ output_from (suc n) l at s m out
+  pub copy_got : (n : ℕ) → output_from n l (at + size) step.state (copied_at at copy out) ≡ output_from (suc n) l at s out
   unfolding output_from
   copy_got n =
       let own = field_bytes copy in
       let same : length own ≡ size = length-field_bytes copy in
-      rw (done, ← drop-drop size at l, replay_got n (drop at l) s m f (some_left l at within) read, laid, ← same)
-      (spliced out own at (omega (arith, fits)) (replay_from n (drop (length own) (drop at l)) (effect (act_of f) s) (rematched f copy m)) (length l) (omega (arith, fits)))
+      rw (done, ← drop-drop size at l, replay_got n (drop at l) s f (some_left l at within) read, laid, ← same)
+      (spliced out own at (omega (arith, fits)) (replay_from n (drop (length own) (drop at l)) (effect (act_of f) s)) (length l) (omega (arith, fits)))

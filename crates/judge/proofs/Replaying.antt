@@ -1,26 +1,19 @@
 -- The replay of a log over what is lent, once the log is judged and, where it is accepted, judged again with the output.
 -- Assumes nothing.
-use Prim.Native.Nat.{ℕ, ◌≤◌}
-use lib.Dec.{leb}
-use lib.ListN.{drop, length, length-append, length-drop}
-use lib.Seq.{drop_at}
-use mathlib.Core.Bool.{true, false}
-use mathlib.Core.List.{List, [], ◌∷◌, ◌++◌, map}
-use mathlib.Core.Path.{◌≡◌, ◌∙◌, ap, refl}
-use native.Mathlib.Omega.{arith}
+use Rattle.std.proofs.Common.{◌≡◌, ℕ, ◌≤◌, true, false, leb, List, ◌++◌, length, drop, refl, ap, ◌∙◌, arith, length-append, length-drop, drop_at}
 use Rattle.fields.specs.declared.Refusal.TheVariants.{BufferTooShort, LogTooLong, OutputTooShort}
 use Rattle.fields.specs.Limits.{cells, log_bytes, log_fields}
 use Rattle.rules.specs.declared.Verdict.{Verdict}
 use Rattle.rules.specs.declared.Verdict.TheVariants.{Accepted, Declined, Raced, Refused}
-use Rattle.rules.specs.Judging.{Buffer, Judged, Lent, buffers, judge_fields, judged, lengths, long_enough, reach, showing}
+use Rattle.rules.specs.Judging.{Judged, Lent, judged, long_enough, showing}
 use Rattle.rules.specs.Log.{located, run_bytes}
 use Rattle.rules.specs.Run as run
 use Rattle.rules.specs.Run.{Ending}
-use Rattle.rules.specs.Replay.{replay_bytes, start}
-use Rattle.rules.specs.Replaying.{output_after, replay_fields, replay_log, replayed}
+use Rattle.rules.specs.Replay.{replay_bytes}
+use Rattle.rules.specs.Replaying.{output_after, replay_log, replayed}
 use Rattle.rules.specs.State.{State, board_pointers, board_variables, fresh, heap_selectors}
-use Rattle.judge.specs.Judges.{Reaches}
-use Rattle.judge.specs.Replays.{Copies, IsAccepted, replay_from, tells_accepted}
+use Rattle.judge.specs.Judges.{LongEnough, shown}
+use Rattle.judge.specs.Replays.{Copies, IsAccepted, replay_from, written}
 
 -- ---- past its front, a list is what it was
 rest_kept : (l rest made : List ℕ) (k : ℕ) → l ≡ made ++ drop k rest → length l ≡ length rest → k ≤ length rest → drop k l ≡ drop k rest
@@ -33,66 +26,78 @@ showing_same : (s : State) (l m : Lent) → drop board_pointers l.pointers ≡ d
 showing_same s l m e₁ e₂ e₃ e₄ e₅ = rw (e₁, e₂, e₃, e₄, e₅)
 
 -- ---- an ending and what is told of it
-told-accepted : (log : List ℕ) (ending : Ending) → tells_accepted (located log ending) ≡ true → IsAccepted ending
+abbrev pub TellsAccepted : Verdict → Type 0
+TellsAccepted (Accepted fields mallocs live) = Unit {0}
+TellsAccepted (Raced field thread variable offset) = ⊥
+TellsAccepted (Refused r field offset) = ⊥
+TellsAccepted (Declined r) = ⊥
+
+told-accepted : (log : List ℕ) (ending : Ending) → TellsAccepted (located log ending) → IsAccepted ending
 told-accepted log (run.Accepted fields mallocs live) h = tt
-told-accepted log (run.Raced field thread variable) h = absurd (let z : ◌≡◌ {A = ℕ} 0 1 = cc in omega arith)
-told-accepted log (run.Refused r field) h = absurd (let z : ◌≡◌ {A = ℕ} 0 1 = cc in omega arith)
+told-accepted log (run.Raced field thread variable) h = h
+told-accepted log (run.Refused r field) h = h
 
-told_kept : (log out : List ℕ) (ending : Ending) → tells_accepted (located log ending) ≡ false → out ≡ output_after ending log out
-told_kept log out (run.Accepted fields mallocs live) h = absurd (let z : ◌≡◌ {A = ℕ} 0 1 = cc in omega arith)
-told_kept log out (run.Raced field thread variable) h = refl
-told_kept log out (run.Refused r field) h = refl
+told_kept : (log out : List ℕ) (ending : Ending) → (TellsAccepted (located log ending) → ⊥) → out ≡ output_after ending log out
+told_kept log out (run.Accepted fields mallocs live) n = absurd (n tt)
+told_kept log out (run.Raced field thread variable) n = refl
+told_kept log out (run.Refused r field) n = refl
 
-accepted_output : (log out : List ℕ) (ending : Ending) → IsAccepted ending → replay_from log_fields log fresh start ++ drop (length log) out ≡ output_after ending log out
+accepted_output : (log out : List ℕ) (ending : Ending) → IsAccepted ending → replay_from log_fields log fresh ++ drop (length log) out ≡ output_after ending log out
 unfolding replay_from replay_bytes
 accepted_output log out (run.Accepted fields mallocs live) h = refl
 accepted_output log out (run.Raced field thread variable) h = absurd h
 accepted_output log out (run.Refused r field) h = absurd h
 
-module _ (log : List ℕ) (l : Lent) (verdict : Verdict) (after : Lent) (ran : judged verdict after ≡ judge_fields log l) where
+module _ (log : List ℕ) (l : Lent) (verdict : Verdict) (after : Lent) (ran : judged verdict after ≡ shown log l) where
   as-told : verdict ≡ located log (run_bytes log_fields log fresh).verdict
-  unfolding judge_fields
+  unfolding shown
   as-told = ap (λ (j : Judged). j.verdict) ran
 
-  ran-accepted : tells_accepted verdict ≡ true → IsAccepted (run_bytes log_fields log fresh).verdict
+  ran-accepted : TellsAccepted verdict → IsAccepted (run_bytes log_fields log fresh).verdict
   ran-accepted h = told-accepted log (run_bytes log_fields log fresh).verdict (rw as-told at h)
 
-  replay-as : (out out' : List ℕ) → out' ≡ output_after (run_bytes log_fields log fresh).verdict log out → replayed verdict out' after ≡ replay_fields log out l
-  unfolding judge_fields replay_fields
+  replay-as : (out out' : List ℕ) → out' ≡ output_after (run_bytes log_fields log fresh).verdict log out → replayed verdict out' after ≡ written log out l
+  unfolding shown written
   replay-as out out' e = rw e (ap (λ (j : Judged). replayed j.verdict (output_after (run_bytes log_fields log fresh).verdict log out) j.after) ran)
 
-  pub replay-kept : (out : List ℕ) → tells_accepted verdict ≡ false → replayed verdict out after ≡ replay_fields log out l
-  replay-kept out n = replay-as out out (told_kept log out (run_bytes log_fields log fresh).verdict (rw as-told at n))
+  pub replay-kept : (out : List ℕ) → (TellsAccepted verdict → ⊥) → replayed verdict out after ≡ written log out l
+  replay-kept out n = replay-as out out (told_kept log out (run_bytes log_fields log fresh).verdict (λ h. n (rw (← as-told) at h)))
 
 -- ---- the second run, over what the first has left
-abbrev pub SameLengths : List Buffer → Lent → Lent → Type 0
-SameLengths [] l after = Unit {0}
-SameLengths (b ∷ bs) l after = (length (b.held after) ≡ length (b.held l)) × SameLengths bs l after
+pub record SameSizes (l after : Lent) : Type 0 where
+  pub pointers : length after.pointers ≡ length l.pointers
+  pub selectors : length after.selectors ≡ length l.selectors
+  pub variables : length after.variables ≡ length l.variables
+  pub numbers : length after.numbers ≡ length l.numbers
+  pub status : length after.status ≡ length l.status
 
-still_reaches : (bs : List Buffer) (l after : Lent) → SameLengths bs l after → Reaches bs (map (λ (b : Buffer). length (b.held l)) bs) → Reaches bs (map (λ (b : Buffer). length (b.held after)) bs)
-still_reaches [] l after same h = tt
-still_reaches (b ∷ bs) l after same h = (rw same.0 h.0, still_reaches bs l after same.1 h.1)
+module _ (l after : Lent) (fit : LongEnough l.pointers l.selectors l.variables l.numbers l.status) (sizes : SameSizes l after) where
+  pub still-enough : LongEnough after.pointers after.selectors after.variables after.numbers after.status
+  still-enough =
+      record {
+        pointers_fit = rw sizes.pointers fit.pointers_fit;
+        selectors_fit = rw sizes.selectors fit.selectors_fit;
+        variables_fit = rw sizes.variables fit.variables_fit;
+        numbers_fit = rw sizes.numbers fit.numbers_fit;
+        status_fit = rw sizes.status fit.status_fit;
+      }
 
-module _ (l after : Lent) (fit : Reaches buffers (lengths l)) (same : SameLengths buffers l after) where
-  pub still-enough : Reaches buffers (lengths after)
-  still-enough = still_reaches buffers l after same fit
-
-  module _ (log : List ℕ) (verdict : Verdict) (ran : judged verdict after ≡ judge_fields log l) where
+  module _ (log : List ℕ) (verdict : Verdict) (ran : judged verdict after ≡ shown log l) where
     -- it shows what the first shows, since past the named sizes the first has left what was lent
-    same-again : judge_fields log after ≡ judge_fields log l
-    unfolding judge_fields
+    same-again : shown log after ≡ shown log l
+    unfolding shown
     same-again =
         let end = run_bytes log_fields log fresh in
         ap (judged (located log end.verdict))
         (showing_same end.state after l
-        (rest_kept after.pointers l.pointers end.state.pointers board_pointers (ap (λ (j : Judged). j.after.pointers) ran) same.0 fit.0)
-        (rest_kept after.selectors l.selectors end.state.selectors heap_selectors (ap (λ (j : Judged). j.after.selectors) ran) same.1.0 fit.1.0)
-        (rest_kept after.variables l.variables end.state.variables board_variables (ap (λ (j : Judged). j.after.variables) ran) same.1.1.0 fit.1.1.0)
-        (rest_kept after.numbers l.numbers end.state.numbers cells (ap (λ (j : Judged). j.after.numbers) ran) same.1.1.1.0 fit.1.1.1.0)
-        (rest_kept after.status l.status end.state.status cells (ap (λ (j : Judged). j.after.status) ran) same.1.1.1.1.0 fit.1.1.1.1.0))
+        (rest_kept after.pointers l.pointers end.state.pointers board_pointers (ap (λ (j : Judged). j.after.pointers) ran) sizes.pointers fit.pointers_fit)
+        (rest_kept after.selectors l.selectors end.state.selectors heap_selectors (ap (λ (j : Judged). j.after.selectors) ran) sizes.selectors fit.selectors_fit)
+        (rest_kept after.variables l.variables end.state.variables board_variables (ap (λ (j : Judged). j.after.variables) ran) sizes.variables fit.variables_fit)
+        (rest_kept after.numbers l.numbers end.state.numbers cells (ap (λ (j : Judged). j.after.numbers) ran) sizes.numbers fit.numbers_fit)
+        (rest_kept after.status l.status end.state.status cells (ap (λ (j : Judged). j.after.status) ran) sizes.status fit.status_fit))
 
-    pub replay-accepted : tells_accepted verdict ≡ true → (verdict' : Verdict) (after' : Lent) → judged verdict' after' ≡ judge_fields log after
-        → (out out' : List ℕ) → length log ≤ length out → Copies log out out' → replayed verdict' out' after' ≡ replay_fields log out l
+    pub replay-accepted : TellsAccepted verdict → (verdict' : Verdict) (after' : Lent) → judged verdict' after' ≡ shown log after
+        → (out out' : List ℕ) → length log ≤ length out → Copies log fresh out out' → replayed verdict' out' after' ≡ written log out l
     replay-accepted told verdict' after' again out out' room copies =
         let accepted = ran-accepted log l verdict after ran told in
         replay-as log l verdict' after' (again ∙ same-again) out out' (copies room accepted ∙ accepted_output log out (run_bytes log_fields log fresh).verdict accepted)
@@ -103,14 +108,14 @@ module _ (log out : List ℕ) (l : Lent) where
   unfolding replay_log
   replayed-too-long h = rw h
 
-  pub replayed-too-short : leb (length log) log_bytes ≡ true → reach buffers (lengths l) ≡ false → replayed (Declined BufferTooShort) out l ≡ replay_log log out l
-  unfolding replay_log long_enough
+  pub replayed-too-short : leb (length log) log_bytes ≡ true → long_enough l ≡ false → replayed (Declined BufferTooShort) out l ≡ replay_log log out l
+  unfolding replay_log
   replayed-too-short h e = rw (h, e)
 
-  pub replayed-no-room : leb (length log) log_bytes ≡ true → reach buffers (lengths l) ≡ true → leb (length log) (length out) ≡ false → replayed (Declined OutputTooShort) out l ≡ replay_log log out l
-  unfolding replay_log long_enough
+  pub replayed-no-room : leb (length log) log_bytes ≡ true → long_enough l ≡ true → leb (length log) (length out) ≡ false → replayed (Declined OutputTooShort) out l ≡ replay_log log out l
+  unfolding replay_log
   replayed-no-room h e r = rw (h, e, r)
 
-  pub replayed-fields : leb (length log) log_bytes ≡ true → reach buffers (lengths l) ≡ true → leb (length log) (length out) ≡ true → replay_fields log out l ≡ replay_log log out l
-  unfolding replay_log long_enough
-  replayed-fields h e r = rw (h, e, r)
+  pub replayed-written : leb (length log) log_bytes ≡ true → long_enough l ≡ true → leb (length log) (length out) ≡ true → written log out l ≡ replay_log log out l
+  unfolding replay_log written
+  replayed-written h e r = rw (h, e, r)

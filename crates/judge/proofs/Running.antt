@@ -1,37 +1,50 @@
 -- One turn of the run, and its ends, as the loop over the log meets them.
 -- Assumes nothing.
-use Prim.Native.Nat.{ℕ, zero, suc, ◌+◌, ◌-◌, ◌<◌, ◌≤◌}
-use borrow.Author.Tests.{ltb-false, ltb-true}
-use lib.Dec.{ltb}
-use lib.ListN.{drop, drop_of_length-le, length, length-drop}
-use lib.Seq.{drop-drop}
-use mathlib.Core.Bool.{Bool, true, false, cond}
-use mathlib.Core.List.{List, [], ◌∷◌}
-use mathlib.Core.Path.{◌≡◌, refl, ap, sym, ◌∙◌}
-use native.Mathlib.Nat.{not-suc-le-zero}
-use native.Mathlib.Omega.{arith}
-use Rattle.fields.proofs.Fetching.{fetched}
-use Rattle.fields.proofs.Lists.{some_left}
+use Rattle.std.proofs.Common.{◌≡◌, ℕ, zero, suc, ◌+◌, ◌-◌, ◌<◌, ◌≤◌, Bool, true, false, cond, ltb, List, [], ◌∷◌, ◌++◌, length, take, drop, sym, refl, ap, ◌∙◌, not-suc-le-zero, arith, length-drop, drop_of_length-le, take_all, drop-drop, ltb-false, ltb-true, leb-true}
+use Rattle.fields.proofs.Passing.{Passes, all-passed, every_cut}
 use Rattle.fields.specs.declared.Field.{Field}
 use Rattle.fields.specs.declared.Refusal.{Refusal}
 use Rattle.fields.specs.declared.Refusal.TheVariants.{TooManyFields}
-use Rattle.fields.specs.Limits.{log_fields}
-use Rattle.fields.specs.Read.{Got, Refused, read_field, tag_in}
-use Rattle.fields.specs.Rows.{field_size}
+use Rattle.fields.specs.Checks.{value_checks}
+use Rattle.fields.specs.Every.{Every}
+use Rattle.fields.specs.Limits.{header_bytes, log_fields}
+use Rattle.fields.specs.Read.{Got, Refused, field_of, framing_checks, read_field, tag_in, value_in}
+use Rattle.fields.specs.Rows.{is_tag, length_of, row_of}
 use Rattle.rules.proofs.Tallies.{counted}
 use Rattle.rules.specs.declared.Answer.{Answer}
 use Rattle.rules.specs.declared.Answer.TheVariants.{Go, Race, Refuse}
-use Rattle.rules.specs.declared.Board.{Board}
-use Rattle.rules.specs.declared.Tally.{Tally}
 use Rattle.rules.specs.Check.{check}
 use Rattle.rules.specs.Commands.{act_of}
 use Rattle.rules.specs.Effect.{effect}
 use Rattle.rules.specs.Log.{end_field, located, offset_of, run_bytes, told_at}
-use Rattle.rules.specs.Run.{Accepted, Ending, Outcome, Refused as RefusedAt, live_count, next, tally_of}
-use Rattle.rules.specs.State.{State, state_of}
-use Rattle.effects.specs.Held.{Counts, Held, applied}
-use Rattle.judge.specs.Runs.{Following, Advances, ended, followed, next_after, on, read_after, run_from}
-use Rattle.judge.specs.Steps.{Step, field_done, held_after, held_of, step_of}
+use Rattle.rules.specs.Run.{Accepted, Ending, Outcome, Refused as RefusedAt, live_count, next}
+use Rattle.rules.specs.State.{State}
+use Rattle.judge.specs.Runs.{Following, Onward, ended, followed, next_after, on, read_after, run_from}
+use Rattle.judge.specs.Steps.{Step, state_after, step_of}
+
+-- ---- a field that was read lies within the bytes, and it passed the checks
+pub record Passed (s : List ℕ) (f : Field) : Type 0 where
+  pub tag : tag_in s ≡ f.tag
+  pub fits : header_bytes + length_of f.tag ≤ length s
+  pub known : is_tag f.tag ≡ true
+  pub right : Every Passes (value_checks (row_of f.tag) f)
+
+pub got_passed : (s : List ℕ) (f : Field) → read_field s ≡ Got f → Passed s f
+unfolding read_field field_of
+got_passed s f e =
+    let g = field_of (tag_in s) (value_in s) in
+    let p = all-passed Refused (Got g) (framing_checks s ++ value_checks (row_of (tag_in s)) g) (Got f) (λ r q. let z : ◌≡◌ {A = ℕ} 0 1 = cc in omega arith) e in
+    let q : Got g ≡ Got f = p.1 in
+    let same : g ≡ f = cc in
+    let tag : tag_in s ≡ f.tag = ap (λ (x : Field). x.tag) same in
+    let header = leb-true 3 (length s) p.0.0 in
+    let value = leb-true (length_of (tag_in s)) (length (value_in s)) p.0.1.1.1.0 in
+    record {
+      tag = tag;
+      fits = rw (← tag) (omega (arith, length-drop 3 s));
+      known = rw (← tag) p.0.1.0;
+      right = rw (← same) (every_cut Passes (framing_checks s) (value_checks (row_of (tag_in s)) g) p.0).1;
+    }
 
 pub run_opened : (n : ℕ) (b : List ℕ) (s : State) → run_from n b s ≡ run_bytes n b s
 unfolding run_from
@@ -39,7 +52,7 @@ run_opened n b s = refl
 
 -- ---- the run, by what is read at the front of the bytes
 pub run_got : (n : ℕ) (b : List ℕ) (s : State) (f : Field) → 0 < length b → read_field b ≡ Got f
-    → run_from (suc n) b s ≡ next (check (act_of f) s) s.fields f s (run_from n (drop (field_size f.tag) b) (effect (act_of f) s))
+    → run_from (suc n) b s ≡ next (check (act_of f) s) s.fields f s (run_from n (drop (header_bytes + length_of f.tag) b) (effect (act_of f) s))
 unfolding run_from
 run_got n [] s f some e = absurd (not-suc-le-zero some)
 run_got n (x ∷ b) s f some e = rw e
@@ -84,34 +97,35 @@ module _ (n : ℕ) (b : List ℕ) where
 
 -- ---- one turn, at a place of the log
 module _ (l : List ℕ) (at : ℕ) (within : at < length l) where
-  module _ (f : Field) (read : read_field (drop at l) ≡ Got f) (h : Held) (step : Step) (stepped : step ≡ step_of (act_of f) h) where
-    abbrev s : State
-    s = h.state
+  pub some_left : 0 < length (drop at l)
+  some_left = rw length-drop (omega arith)
 
-    abbrev after : Answer → State
-    after k = (held_after k h (field_done (applied (act_of f).change h))).state
+  -- the part that the code reads at
+  pub part : take (length l - at) (drop at l) ≡ drop at l
+  part = take_all (length l - at) (drop at l) (simp length-drop (omega arith))
 
-    by_answer : (n : ℕ) (k : Answer) → followed n (next_after k s.fields f at) l (after k)
-        ≡ next k s.fields f s (run_from n (drop (field_size f.tag) (drop at l)) (effect (act_of f) s))
+  module _ (f : Field) (read : read_field (drop at l) ≡ Got f) (s : State) (step : Step) (stepped : step ≡ step_of (act_of f) s) where
+    by_answer : (n : ℕ) (k : Answer) → followed n (next_after k s.fields f at) l (state_after k s (effect (act_of f) s))
+        ≡ next k s.fields f s (run_from n (drop (header_bytes + length_of f.tag) (drop at l)) (effect (act_of f) s))
     by_answer n Go = rw drop-drop
     by_answer n (Race p) = refl
     by_answer n (Refuse r) = refl
 
-    pub turn-got : (n : ℕ) → followed n (next_after step.answer s.fields f at) l step.held.state ≡ run_from (suc n) (drop at l) s
+    pub turn-got : (n : ℕ) → followed n (next_after step.answer s.fields f at) l step.state ≡ run_from (suc n) (drop at l) s
     unfolding step_of
-    turn-got n = rw stepped (by_answer n (check (act_of f) s) ∙ sym (run_got n (drop at l) s f (some_left l at within) read))
+    turn-got n = rw stepped (by_answer n (check (act_of f) s) ∙ sym (run_got n (drop at l) s f some_left read))
 
-    advances-by : (k : Answer) → Advances (next_after k s.fields f at) at (length l) s (after k)
-    advances-by Go =
-        let fits = (fetched (drop at l) f read).fits in
+    onward-by : (k : Answer) → Onward (next_after k s.fields f at) at (length l) s (state_after k s (effect (act_of f) s))
+    onward-by Go =
+        let fits = (got_passed (drop at l) f read).fits in
         let count = counted (act_of f) s in
         ((omega arith, omega (arith, length-drop at l)), (count.fields, count.mallocs))
-    advances-by (Race p) = tt
-    advances-by (Refuse r) = tt
+    onward-by (Race p) = tt
+    onward-by (Refuse r) = tt
 
-    pub turn-advances : Advances (next_after step.answer s.fields f at) at (length l) s step.held.state
+    pub turn-onward : Onward (next_after step.answer s.fields f at) at (length l) s step.state
     unfolding step_of
-    turn-advances = rw stepped (advances-by (check (act_of f) s))
+    turn-onward = rw stepped (onward-by (check (act_of f) s))
 
   -- ---- the loop: what a turn gives carries on, or ends
   module _ (x : Following) (s t : State) (o : Outcome) (k m : ℕ) (turned : (n : ℕ) → followed n x l t ≡ run_from (suc n) (drop at l) s) (fuel : k ≡ suc m) (whole : run_from k (drop at l) s ≡ o) where
@@ -123,39 +137,34 @@ module _ (l : List ℕ) (at : ℕ) (within : at < length l) where
 
   pub loop-stopped : (s : State) (o : Outcome) (k : ℕ) (r : Refusal) → k ≡ log_fields - s.fields → run_from k (drop at l) s ≡ o → read_after s.fields (drop at l) ≡ Refused r
       → ◌≡◌ {A = Outcome} (record { verdict = RefusedAt r s.fields; state = s }) o
-  loop-stopped s o k r fuel whole e = sym (run-stops s.fields (drop at l) k s r (some_left l at within) fuel e) ∙ whole
+  loop-stopped s o k r fuel whole e = sym (run-stops s.fields (drop at l) k s r some_left fuel e) ∙ whole
 
 pub loop_end : (l : List ℕ) (at : ℕ) (s : State) (o : Outcome) (n c : ℕ) → length l ≤ at → run_from n (drop at l) s ≡ o → c ≡ live_count s.status → ◌≡◌ {A = Outcome} (record { verdict = Accepted s.fields s.mallocs c; state = s }) o
 loop_end l at s o n c past whole count = rw count (sym (run_none n s) ∙ (rw (drop_of_length-le l {i = at} past) at whole))
 
-pub advances_on : (x : Following) (b at end : ℕ) (t t' : State) → x ≡ on b → Advances x at end t t' → Advances (on b) at end t t'
-advances_on x b at end t t' e h = rw e at h
+pub onward_on : (x : Following) (b at end : ℕ) (t t' : State) → x ≡ on b → Onward x at end t t' → Onward (on b) at end t t'
+onward_on x b at end t t' e h = rw e at h
 
-pub goes_on_lem : (k : Answer) (n : ℕ) (f : Field) (at b : ℕ) → k ≡ Go → b ≡ at + field_size f.tag → next_after k n f at ≡ on b
+pub goes_on_lem : (k : Answer) (n : ℕ) (f : Field) (at b : ℕ) → k ≡ Go → b ≡ at + (header_bytes + length_of f.tag) → next_after k n f at ≡ on b
 goes_on_lem k n f at b went place = rw (went, place)
 
 -- ---- where a field begins
-pub offset_next : (n : ℕ) (log : List ℕ) → offset_of (suc n) log ≡ offset_of n log + field_size (tag_in (drop (offset_of n log) log))
+pub offset_next : (n : ℕ) (log : List ℕ) → offset_of (suc n) log ≡ offset_of n log + (header_bytes + length_of (tag_in (drop (offset_of n log) log)))
 offset_next zero log = omega arith
 offset_next (suc n) log =
-    let size = field_size (tag_in log) in
+    let size = header_bytes + length_of (tag_in log) in
     let later = offset_next n (drop size log) in
     let there : drop (offset_of n (drop size log)) (drop size log) ≡ drop (size + offset_of n (drop size log)) log = drop-drop (offset_of n (drop size log)) size log in
     omega (arith, rw there at later)
 
-pub offset_on : (n m : ℕ) (log : List ℕ) (at b : ℕ) (f : Field) → at ≡ offset_of n log → read_field (drop at log) ≡ Got f → b ≡ at + field_size f.tag → m ≡ n + 1 → b ≡ offset_of m log
+pub offset_on : (n m : ℕ) (log : List ℕ) (at b : ℕ) (f : Field) → at ≡ offset_of n log → read_field (drop at log) ≡ Got f → b ≡ at + (header_bytes + length_of f.tag) → m ≡ n + 1 → b ≡ offset_of m log
 offset_on n m log at b f here read place counted =
-    let tag : tag_in (drop at log) ≡ f.tag = (fetched (drop at log) f read).tag in
+    let tag : tag_in (drop at log) ≡ f.tag = (got_passed (drop at log) f read).tag in
     let later : m ≡ suc n = omega arith in
     let step = offset_next n log in
     rw later (omega (arith, place, here, rw (← here, tag) at step))
 
--- an outcome, told with the place of its field; and the tally of what is held, whose numbers are those of the state
-pub told_outcome : (log : List ℕ) (o : Outcome) (ending : Ending) (board : Board) (tally : Tally) (selectors numbers status : List ℕ) (at : ℕ)
-    → at ≡ offset_of (end_field ending) log → Counts (held_of board tally selectors numbers status) → ◌≡◌ {A = Outcome} (record { verdict = ending; state = state_of board tally selectors numbers status }) o
-    → (told_at at ending ≡ located log o.verdict) × (state_of board tally selectors numbers status ≡ o.state) × (tally ≡ tally_of o.state)
-told_outcome log o ending board tally selectors numbers status at here counts same = (
-  rw here (ap (λ (q : Outcome). located log q.verdict) same),
-  ap (λ (q : Outcome). q.state) same,
-  ap (λ (live : ℕ). record { fields = tally.fields; mallocs = tally.mallocs; live = live }) counts.kept ∙ ap (λ (q : Outcome). tally_of q.state) same,
-)
+-- an outcome, told with the place of its field
+pub told_outcome : (log : List ℕ) (o : Outcome) (ending : Ending) (s : State) (at : ℕ) → at ≡ offset_of (end_field ending) log → ◌≡◌ {A = Outcome} (record { verdict = ending; state = s }) o
+    → (told_at at ending ≡ located log o.verdict) × (s ≡ o.state)
+told_outcome log o ending s at here same = (rw here (ap (λ (q : Outcome). located log q.verdict) same), ap (λ (q : Outcome). q.state) same)

@@ -1,5 +1,7 @@
--- What the contracts of this crate name beside the rules: the code's records, in the terms of the rules.
+-- What the contracts of this crate name beside the rules: the code's answers and records, in the terms of the rules.
 -- Assumes nothing.
+pub mod Looks
+pub mod Answers
 pub mod Steps
 pub mod Runs
 pub mod Judges

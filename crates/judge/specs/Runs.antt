@@ -1,15 +1,15 @@
 -- The run from a place of the log: what remains to be run there, and what one turn leaves.
 -- Assumes nothing.
-use Rattle.std.specs.Prelude.{ℕ, ◌+◌, ◌<◌, ◌≤◌, ltb, drop, cond, List, ◌≡◌}
+use Rattle.std.specs.Prelude.{◌≡◌, ℕ, ◌+◌, ◌<◌, ◌≤◌, cond, List, drop, nat_lt}
 use Rattle.fields.specs.declared.Field.{Field}
 use Rattle.fields.specs.declared.Refusal.TheVariants.{TooManyFields}
-use Rattle.fields.specs.Limits.{log_fields}
+use Rattle.fields.specs.Limits.{header_bytes, log_fields}
 use Rattle.fields.specs.Read.{Reading, Refused as Unread, read_field}
-use Rattle.fields.specs.Rows.{field_size}
+use Rattle.fields.specs.Rows.{length_of}
 use Rattle.rules.specs.declared.Answer.{Answer}
 use Rattle.rules.specs.declared.Answer.TheVariants.{Go, Race, Refuse}
 use Rattle.rules.specs.Log.{located, run_bytes}
-use Rattle.rules.specs.Run.{Ending, Raced, Refused, Outcome, tally_of}
+use Rattle.rules.specs.Run.{Ending, Raced, Refused, Outcome}
 use Rattle.rules.specs.State.{State, state_of}
 use Rattle.judge.specs.declared.run.Ran.{Ran}
 
@@ -19,7 +19,7 @@ run_from n bytes s = run_bytes n bytes s
 
 -- the field at the front of what is left, after so many: check 3, then the reading
 abbrev pub read_after : ℕ → List ℕ → Reading
-read_after fields part = cond (ltb fields log_fields) (read_field part) (Unread TooManyFields)
+read_after fields part = cond (nat_lt fields log_fields) (read_field part) (Unread TooManyFields)
 
 -- what follows a field: another at a place, or the end
 pub data Following : Type 0 where
@@ -28,7 +28,7 @@ pub data Following : Type 0 where
 
 -- what follows field n, being f and read at a place, by its answer
 abbrev pub next_after : Answer → ℕ → Field → ℕ → Following
-next_after Go n f at = on (at + field_size f.tag)
+next_after Go n f at = on (at + (header_bytes + length_of f.tag))
 next_after (Race p) n f at = ended (Raced n f.thread p)
 next_after (Refuse r) n f at = ended (Refused r n)
 
@@ -38,11 +38,10 @@ followed n (on at) log s = run_from n (drop at log) s
 followed n (ended ending) log s = record { verdict = ending; state = s }
 
 -- going on, the place moves within the log, and one field is counted
-abbrev pub Advances : Following → ℕ → ℕ → State → State → Type 0
-Advances (on next) at end before after = ((at < next) × (next ≤ end)) × ((after.fields ≡ before.fields + 1) × (after.mallocs ≤ before.mallocs + 1))
-Advances (ended ending) at end before after = Unit {0}
+abbrev pub Onward : Following → ℕ → ℕ → State → State → Type 0
+Onward (on next) at end before after = ((at < next) × (next ≤ end)) × ((after.fields ≡ before.fields + 1) × (after.mallocs ≤ before.mallocs + 1))
+Onward (ended ending) at end before after = Unit {0}
 
--- what the code has made of a log is this outcome, told with the offset of its field, and its tally
+-- what the code has made of a log is this outcome, told with the offset of its field
 abbrev pub RanTo : List ℕ → Outcome → Ran → List ℕ → List ℕ → List ℕ → Type 0
-RanTo log o r selectors numbers status =
-    (r.verdict ≡ located log o.verdict) × (state_of r.board r.tally selectors numbers status ≡ o.state) × (r.tally ≡ tally_of o.state)
+RanTo log o r selectors numbers status = (r.verdict ≡ located log o.verdict) × (state_of r.board r.tally selectors numbers status ≡ o.state)

@@ -1,44 +1,39 @@
--- One field's step: its answer, and what is held after it, which a stop leaves as it was.
+-- One field's step: its answer, and the state after it, which a stop leaves as it was.
 -- Assumes nothing.
-use Rattle.std.specs.Prelude.{ℕ, List}
+use Rattle.std.specs.Prelude.{◌≡◌, ℕ, ◌≤◌, List, length}
+use Rattle.fields.specs.Limits.{cells}
 use Rattle.rules.specs.declared.Act.{Act}
 use Rattle.rules.specs.declared.Answer.{Answer}
 use Rattle.rules.specs.declared.Answer.TheVariants.{Go, Race, Refuse}
-use Rattle.rules.specs.declared.Board.{Board}
 use Rattle.rules.specs.declared.Tally.{Tally}
 use Rattle.rules.specs.Check.{check}
-use Rattle.rules.specs.Effect.{count_field}
-use Rattle.rules.specs.State.{State, state_of, with_tally}
-use Rattle.effects.specs.Held.{Held, applied, hold}
+use Rattle.rules.specs.Effect.{effect}
+use Rattle.rules.specs.Run.{live_count}
+use Rattle.rules.specs.State.{State, state_of}
+use Rattle.heap.specs.Boards.{board_of}
 use Rattle.judge.specs.declared.plays.Played.{Played}
 use Rattle.judge.specs.declared.step.Stepped.{Stepped}
 
+-- the tally keeps the count of the statuses equal to 1; that there are no more statuses than cells keeps it within its type
+pub record Counts (tally : Tally) (status : List ℕ) : Type 0 where
+  pub kept : tally.live ≡ live_count status
+  pub few : length status ≤ cells
+
 pub record Step : Type 0 where
   pub answer : Answer
-  pub held : Held
+  pub state : State
 
-abbrev pub held_after : Answer → Held → Held → Held
-held_after Go before after = after
-held_after (Race p) before after = before
-held_after (Refuse r) before after = before
+abbrev pub state_after : Answer → State → State → State
+state_after Go before after = after
+state_after (Race p) before after = before
+state_after (Refuse r) before after = before
 
--- with one field more done
-abbrev pub field_done : Held → Held
-field_done h = hold h.live (count_field h.state)
+unfoldable pub step_of : Act → State → Step
+step_of a s = record { answer = check a s; state = state_after (check a s) s (effect a s) }
 
-unfoldable pub step_of : Act → Held → Step
-step_of a h = record { answer = check a h.state; held = held_after (check a h.state) h (field_done (applied a.change h)) }
-
--- ---- what the code holds: a tally beside a state, whose own fields and mallocs are the tally's
-abbrev pub tallied : Tally → State → Held
-tallied tally s = hold tally.live (with_tally tally.fields tally.mallocs s)
-
-abbrev pub held_of : Board → Tally → List ℕ → List ℕ → List ℕ → Held
-held_of board tally selectors numbers status = hold tally.live (state_of board tally selectors numbers status)
-
--- the step that the code has made: of a command, on the lists of a state; and of a field
-abbrev pub played : Played → State → Step
-played r s = record { answer = r.answer; held = tallied r.tally s }
+-- the step that the code has made: of a command on the lists, and of a field
+abbrev pub played : Played → List ℕ → List ℕ → List ℕ → List ℕ → List ℕ → Step
+played r pointers variables selectors numbers status = record { answer = r.answer; state = state_of (board_of pointers variables) r.tally selectors numbers status }
 
 abbrev pub stepped : Stepped → List ℕ → List ℕ → List ℕ → Step
-stepped r selectors numbers status = record { answer = r.answer; held = held_of r.board r.tally selectors numbers status }
+stepped r selectors numbers status = record { answer = r.answer; state = state_of r.board r.tally selectors numbers status }

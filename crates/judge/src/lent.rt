@@ -1,39 +1,69 @@
 // A log judged over what the caller lends: buffers of any length, of which only the named sizes are touched, and the tally by value.
-ghost use Rattle.std.specs.Prelude.{[], ◌∷◌, ◌≡◌, ◌≤◌, length};
-ghost use Rattle.fields.specs.Limits.{log_bytes};
-ghost use Rattle.judge.specs.Judges.{Judges, Reaches};
+ghost use Rattle.std.specs.Prelude.{◌≡◌, ◌≤◌, length};
+ghost use Rattle.fields.specs.Limits.{cells, log_bytes, log_fields};
+ghost use Rattle.judge.specs.Judges.{Judges, LongEnough, shown};
 ghost use Rattle.judge.specs.Replays.{Copies};
-ghost use Rattle.rules.specs.Judging.{buffers, judge_fields, judged, lent, reach};
+ghost use Rattle.judge.specs.Runs.{RanTo};
+ghost use Rattle.judge.specs.Steps.{Counts};
+ghost use Rattle.rules.specs.Judging.{judged, lent, long_enough};
+ghost use Rattle.rules.specs.Log.{run_bytes};
+ghost use Rattle.rules.specs.State.{fresh, fresh_board, fresh_tally, heap_selectors, state_of};
 
 use super::Judged;
-use super::run::run;
+use super::run::{Ran, run};
 use fields::{Log, Refusal};
-use heap::{copy_numbers, copy_words};
+use heap::{copy_numbers, copy_words, fill_numbers, fill_status, fill_words};
 use rules::{Board, Heap, Tally, Verdict};
 
-// Whether buffers of these lengths reach their sizes.
 pub fn long_enough(
-    pointers: usize,
-    selectors: usize,
-    variables: usize,
-    numbers: usize,
-    status: usize,
+    pointers: &[u16],
+    selectors: &[u16],
+    variables: &[u32],
+    numbers: &[u32],
+    status: &[u8],
 ) -> bool
-    ensures { result ≡ reach buffers (pointers ∷ selectors ∷ variables ∷ numbers ∷ status ∷ []) }
+    ensures { (tally : Tally) → result ≡ long_enough (lent pointers.now selectors.now variables.now numbers.now status.now tally) }
 {
-    if pointers < Board::POINTERS {
+    if pointers.len() < Board::POINTERS {
         return false;
     }
-    if selectors < Heap::SELECTORS {
+    if selectors.len() < Heap::SELECTORS {
         return false;
     }
-    if variables < Board::VARIABLES {
+    if variables.len() < Board::VARIABLES {
         return false;
     }
-    if numbers < Heap::CELLS {
+    if numbers.len() < Heap::CELLS {
         return false;
     }
-    Heap::CELLS <= status
+    Heap::CELLS <= status.len()
+}
+
+// The lists of the fresh state, whatever they held.
+fn refresh(selectors: &mut [u16], numbers: &mut [u32], status: &mut [u8])
+    requires { (length selectors.old ≡ heap_selectors) × ((length numbers.old ≡ cells) × (length status.old ≡ cells)) }
+    ensures { state_of fresh_board fresh_tally selectors.new numbers.new status.new ≡ fresh }
+{
+    fill_words(selectors, Heap::UNSET);
+    fill_numbers(numbers, 0);
+    fill_status(status, Heap::NEVER_USED);
+}
+
+fn run_fresh(
+    log: &[u8],
+    out: &mut [u8],
+    selectors: &mut [u16],
+    numbers: &mut [u32],
+    status: &mut [u8],
+) -> Ran
+    requires log_len_bound { length log.now ≤ log_bytes }
+    requires selectors_len { (length selectors.old ≡ heap_selectors) × ((length numbers.old ≡ cells) × (length status.old ≡ cells)) }
+    ensures ran_to { RanTo log.now (run_bytes log_fields log.now fresh) result selectors.new numbers.new status.new }
+    ensures counts { Counts result.tally status.new }
+    ensures copies { Copies log.now fresh out.old out.new }
+{
+    refresh(selectors, numbers, status);
+    run(log, out, selectors, numbers, status)
 }
 
 // The run over exactly the named sizes of what is lent. What lies past them stays.
@@ -47,11 +77,11 @@ pub fn run_lent(
     status: &mut [u8],
 ) -> Judged
     requires log_len_bound { length log.now ≤ log_bytes }
-    requires reaches { Reaches buffers (length pointers.old ∷ length selectors.old ∷ length variables.old ∷ length numbers.old ∷ length status.old ∷ []) }
-    ensures tally_after { (tally : Tally) → judged result.verdict (lent pointers.new selectors.new variables.new numbers.new status.new result.tally) ≡ judge_fields log.now (lent pointers.old selectors.old variables.old numbers.old status.old tally) }
-    ensures copies { Copies log.now out.old out.new }
+    requires long_enough { LongEnough pointers.old selectors.old variables.old numbers.old status.old }
+    ensures tally_after { (tally : Tally) → judged result.verdict (lent pointers.new selectors.new variables.new numbers.new status.new result.tally) ≡ shown log.now (lent pointers.old selectors.old variables.old numbers.old status.old tally) }
+    ensures copies { Copies log.now fresh out.old out.new }
 {
-    let ran = run(
+    let ran = run_fresh(
         log,
         out,
         &mut selectors[..Heap::SELECTORS],
@@ -68,16 +98,6 @@ pub fn run_lent(
     Judged { verdict, tally }
 }
 
-// Nothing was looked at, and the tally is as it was lent.
-pub fn declined(why: Refusal, tally: Tally) -> Judged
-    ensures { result ≡ record { verdict = Verdict.Declined why; tally = tally } }
-{
-    Judged {
-        verdict: Verdict::Declined(why),
-        tally,
-    }
-}
-
 pub fn judge_log(
     log: &[u8],
     pointers: &mut [u16],
@@ -87,18 +107,15 @@ pub fn judge_log(
     status: &mut [u8],
     tally: Tally,
 ) -> Judged
-    ensures { Judges log.now (lent pointers.old selectors.old variables.old numbers.old status.old tally) result.verdict (lent pointers.new selectors.new variables.new numbers.new status.new result.tally) }
+    ensures { Judges log.now pointers.old selectors.old variables.old numbers.old status.old tally result.verdict result.tally pointers.new selectors.new variables.new numbers.new status.new }
 {
     if Log::BYTES < log.len() {
-        return declined(Refusal::LogTooLong, tally);
+        return Judged {
+            verdict: Verdict::Declined(Refusal::LogTooLong),
+            tally,
+        };
     }
-    if long_enough(
-        pointers.len(),
-        selectors.len(),
-        variables.len(),
-        numbers.len(),
-        status.len(),
-    ) {
+    if long_enough(pointers, selectors, variables, numbers, status) {
         return run_lent(
             log,
             &mut [],
@@ -109,5 +126,8 @@ pub fn judge_log(
             status,
         );
     }
-    declined(Refusal::BufferTooShort, tally)
+    Judged {
+        verdict: Verdict::Declined(Refusal::BufferTooShort),
+        tally,
+    }
 }

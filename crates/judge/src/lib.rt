@@ -1,11 +1,17 @@
 // Judging a log of pointer commands over what the caller lends, and writing its replay.
-// One field's step stands in private modules: judging one field against a heap of the caller's making is not offered.
+// One field's step, its checks and its effects stand in private modules: judging one field against a heap of the caller's making is not offered.
+mod acts;
+mod checks;
+mod copies;
+mod effects;
 mod lent;
+mod looks;
 mod plays;
 mod replay;
 mod run;
 mod step;
 
+pub use acts::act_of;
 pub use lent::judge_log;
 pub use replay::replay_log;
 use rules::{Tally, Verdict};

@@ -1,16 +1,14 @@
-// One command on the lists. Its kind is looked at once: each kind makes its checks, and where all of them pass, its change. Each contract
-// speaks of any state that has the lists which the function is lent: whatever else is in the state stays what it is.
-ghost use Rattle.std.specs.Prelude.{◌≡◌, ◌+◌, ◌≤◌};
-ghost use Rattle.checks.specs.Answers.{goes_on};
+// One command on the lists. Its kind is looked at once: each kind makes its checks, and where all of them pass, its change.
+ghost use Rattle.std.specs.Prelude.{◌≡◌, ℕ, ◌+◌, ◌≤◌, List};
 ghost use Rattle.fields.specs.Limits.{log_fields};
-ghost use Rattle.judge.specs.Steps.{played, step_of, tallied};
-ghost use Rattle.rules.specs.State.{State, with_data, with_pointers, with_status, with_variables, with_words};
+ghost use Rattle.heap.specs.Boards.{board_of};
+ghost use Rattle.judge.specs.Answers.{goes_on};
+ghost use Rattle.judge.specs.Steps.{Counts, played, step_of};
+ghost use Rattle.rules.specs.State.{state_of};
 
-use checks::{
-    Look, check_guard, check_through, check_vacant, data_through, pointer_through, race_at,
-    value_through,
-};
-use effects::{give_cell, move_word, put_number, release};
+use super::checks::{check_guard, check_through, check_vacant, race_at};
+use super::effects::{give_cell, move_word, put_number, release};
+use super::looks::{Look, data_through, pointer_through, value_through};
 use fields::{Log, RecordedCell, Refusal};
 use rules::{Act, Answer, Change, Guard, PExp, Tally};
 
@@ -31,15 +29,14 @@ fn goes(answer: Answer) -> bool
     }
 }
 
-// A tally with one field more done, and these mallocs and live cells. What is asked keeps the sum within its type.
-fn count_field(tally: Tally, mallocs: u32, live: u32) -> Tally
+fn count_field(tally: Tally) -> Tally
     requires { tally.fields ≤ log_fields }
-    ensures { result ≡ record { fields = tally.fields + 1; mallocs = mallocs; live = live } }
+    ensures { result ≡ record { fields = tally.fields + 1; mallocs = tally.mallocs; live = tally.live } }
 {
     Tally {
         fields: tally.fields + 1,
-        mallocs,
-        live,
+        mallocs: tally.mallocs,
+        live: tally.live,
     }
 }
 
@@ -56,19 +53,20 @@ fn play_malloc(
     numbers: &mut [u32],
     status: &mut [u8],
 ) -> Played
-    requires { tally.fields ≤ log_fields }
-    ensures { (s : State) → played result (with_words pointers.new selectors.new (with_data variables.now numbers.new (with_status status.new s))) ≡ step_of (record { guard = guard; change = Change.Allocate p cell number }) (tallied tally (with_words pointers.old selectors.old (with_data variables.now numbers.old (with_status status.old s)))) }
+    requires fields_le_log_fields { (tally.fields ≤ log_fields) × (tally.mallocs ≤ log_fields) }
+    requires counts { Counts tally status.old }
+    ensures status_after { played result pointers.new variables.now selectors.new numbers.new status.new ≡ step_of (record { guard = guard; change = Change.Allocate p cell number }) (state_of (board_of pointers.old variables.now) tally selectors.old numbers.old status.old) }
+    ensures counts_2 { Counts result.tally status.new }
 {
-    let mallocs = tally.mallocs;
-    if mallocs < (Log::MALLOCS as u32) {
+    if tally.mallocs < (Log::MALLOCS as u32) {
         let answer = check_guard(guard, pointers, variables, check_vacant(status, cell));
         if goes(answer) {
-            let live = give_cell(
-                p, cell, number, tally.live, pointers, selectors, numbers, status,
+            let count = give_cell(
+                p, cell.0, number, tally, pointers, selectors, numbers, status,
             );
             return Played {
                 answer,
-                tally: count_field(tally, mallocs + 1, live),
+                tally: count_field(count),
             };
         }
         return Played { answer, tally };
@@ -79,6 +77,7 @@ fn play_malloc(
     }
 }
 
+// Numbers are neither read nor touched by a free, so what is said holds whatever these are.
 fn play_free(
     guard: Guard,
     p: u8,
@@ -88,20 +87,22 @@ fn play_free(
     selectors: &mut [u16],
     status: &mut [u8],
 ) -> Played
-    requires { tally.fields ≤ log_fields }
-    ensures { (s : State) → played result (with_words pointers.new selectors.new (with_variables variables.now (with_status status.new s))) ≡ step_of (record { guard = guard; change = Change.Release p }) (tallied tally (with_words pointers.old selectors.old (with_variables variables.now (with_status status.old s)))) }
+    requires { (tally.fields ≤ log_fields) × Counts tally status.old }
+    ensures by_index { (numbers : List ℕ) → played result pointers.new variables.now selectors.new numbers status.new ≡ step_of (record { guard = guard; change = Change.Release p }) (state_of (board_of pointers.old variables.now) tally selectors.old numbers status.old) }
+    ensures counts { Counts result.tally status.new }
 {
     let answer = check_guard(guard, pointers, variables, race_at(pointers, Look::At(p)));
     if goes(answer) {
-        let live = release(p, tally.live, pointers, selectors, status);
+        let count = release(p, tally, pointers, selectors, status);
         return Played {
             answer,
-            tally: count_field(tally, tally.mallocs, live),
+            tally: count_field(count),
         };
     }
     Played { answer, tally }
 }
 
+// Numbers and statuses are neither read nor touched by an assignment of pointers.
 fn play_move(
     guard: Guard,
     to: PExp,
@@ -112,7 +113,8 @@ fn play_move(
     selectors: &mut [u16],
 ) -> Played
     requires { tally.fields ≤ log_fields }
-    ensures { (s : State) → played result (with_words pointers.new selectors.new (with_variables variables.now s)) ≡ step_of (record { guard = guard; change = Change.Move to from }) (tallied tally (with_words pointers.old selectors.old (with_variables variables.now s))) }
+    ensures by_index { (numbers status : List ℕ) → played result pointers.new variables.now selectors.new numbers status ≡ step_of (record { guard = guard; change = Change.Move to from }) (state_of (board_of pointers.old variables.now) tally selectors.old numbers status) }
+    ensures live_value { result.tally.live ≡ tally.live }
 {
     let passed = check_through(pointers, pointer_through(to), pointer_through(from));
     let answer = check_guard(guard, pointers, variables, passed);
@@ -120,7 +122,7 @@ fn play_move(
         move_word(to, from, pointers, selectors);
         return Played {
             answer,
-            tally: count_field(tally, tally.mallocs, tally.live),
+            tally: count_field(tally),
         };
     }
     Played { answer, tally }
@@ -134,13 +136,14 @@ fn play_assertion<'a>(
     variables: &'a [u32],
 ) -> Played
     requires { tally.fields ≤ log_fields }
-    ensures { (s : State) → played result (with_pointers pointers.now (with_variables variables.now s)) ≡ step_of (record { guard = guard; change = Change.Stay }) (tallied tally (with_pointers pointers.now (with_variables variables.now s))) }
+    ensures by_index { (selectors numbers status : List ℕ) → played result pointers.now variables.now selectors numbers status ≡ step_of (record { guard = guard; change = Change.Stay }) (state_of (board_of pointers.now variables.now) tally selectors numbers status) }
+    ensures live_value { result.tally.live ≡ tally.live }
 {
     let answer = check_guard(guard, pointers, variables, Answer::Go);
     if goes(answer) {
         return Played {
             answer,
-            tally: count_field(tally, tally.mallocs, tally.live),
+            tally: count_field(tally),
         };
     }
     Played { answer, tally }
@@ -157,8 +160,10 @@ pub fn play(
     numbers: &mut [u32],
     status: &mut [u8],
 ) -> Played
-    requires { tally.fields ≤ log_fields }
-    ensures { (s : State) → played result (with_words pointers.new selectors.new (with_data variables.new numbers.new (with_status status.new s))) ≡ step_of act (tallied tally (with_words pointers.old selectors.old (with_data variables.old numbers.old (with_status status.old s)))) }
+    requires fields_le_log_fields { (tally.fields ≤ log_fields) × (tally.mallocs ≤ log_fields) }
+    requires counts { Counts tally status.old }
+    ensures status_after { played result pointers.new variables.new selectors.new numbers.new status.new ≡ step_of act (state_of (board_of pointers.old variables.old) tally selectors.old numbers.old status.old) }
+    ensures counts_2 { Counts result.tally status.new }
 {
     let guard = act.guard;
     let change = act.change;
@@ -176,7 +181,7 @@ pub fn play(
                 put_number(to, value, pointers, variables, numbers);
                 return Played {
                     answer,
-                    tally: count_field(tally, tally.mallocs, tally.live),
+                    tally: count_field(tally),
                 };
             }
             Played { answer, tally }

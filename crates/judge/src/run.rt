@@ -1,17 +1,17 @@
 // The run over a log: field by field, until one stops or the log ends, each field copied into the output before it takes effect.
-ghost use Rattle.std.specs.Prelude.{◌≡◌, ◌<◌, ◌≤◌, drop, length};
-ghost use Rattle.fields.specs.Limits.{cells, log_bytes, log_fields};
+ghost use Rattle.std.specs.Prelude.{◌≡◌, ◌<◌, ◌≤◌, length, drop};
+ghost use Rattle.fields.specs.Limits.{log_bytes, log_fields};
 ghost use Rattle.fields.specs.Read.{placed};
 ghost use Rattle.judge.specs.Replays.{Copies};
 ghost use Rattle.judge.specs.Runs.{RanTo, read_after};
+ghost use Rattle.judge.specs.Steps.{Counts};
 ghost use Rattle.rules.specs.Log.{run_bytes};
-ghost use Rattle.rules.specs.State.{fresh, heap_selectors};
+ghost use Rattle.rules.specs.State.{fresh_board, fresh_tally, state_of};
 
+use super::copies::copy_field;
 use super::step::step;
-use copies::copy_field;
 use fields::{Field, Log, Read, Refusal, read_field, value_length};
-use heap::{fill_numbers, fill_status, fill_words};
-use rules::{Answer, Board, Heap, ReplayCell, Tally, Verdict};
+use rules::{Answer, Board, ReplayCell, Tally, Verdict};
 
 #[derive(Drop)]
 pub struct Ran {
@@ -42,8 +42,8 @@ fn read_at(log: &[u8], at: usize, fields: u32) -> Read
     Read::Refused(Refusal::TooManyFields, offset)
 }
 
-// The lists are those of the fresh state first, whatever they held. The board is taken back from the step at once and in one place, so that
-// nothing stands between the copy that is handed over and the one that is taken back.
+// The board is taken back from the step at once and in one place: between a board handed over and one taken back nothing is copied
+// but the board itself.
 pub fn run(
     log: &[u8],
     out: &mut [u8],
@@ -51,14 +51,11 @@ pub fn run(
     numbers: &mut [u32],
     status: &mut [u8],
 ) -> Ran
-    requires log_len_bound { length log.now ≤ log_bytes }
-    requires selectors_len { (length selectors.old ≡ heap_selectors) × ((length numbers.old ≡ cells) × (length status.old ≡ cells)) }
-    ensures ran_to { RanTo log.now (run_bytes log_fields log.now fresh) result selectors.new numbers.new status.new }
-    ensures copies { Copies log.now out.old out.new }
+    requires { (length log.now ≤ log_bytes) × Counts fresh_tally status.old }
+    ensures ran_to { RanTo log.now (run_bytes log_fields log.now (state_of fresh_board fresh_tally selectors.old numbers.old status.old)) result selectors.new numbers.new status.new }
+    ensures counts { Counts result.tally status.new }
+    ensures copies { Copies log.now (state_of fresh_board fresh_tally selectors.old numbers.old status.old) out.old out.new }
 {
-    fill_words(selectors, Heap::UNSET);
-    fill_numbers(numbers, 0);
-    fill_status(status, Heap::NEVER_USED);
     let mut board = Board::fresh();
     let mut tally = Tally::fresh();
     let mut at: usize = 0;

@@ -1,11 +1,12 @@
 // One field: decoded, checked, and where it goes, applied.
 ghost use Rattle.std.specs.Prelude.{◌≡◌, ◌≤◌};
 ghost use Rattle.fields.specs.Limits.{log_fields};
-ghost use Rattle.judge.specs.Steps.{held_of, step_of, stepped};
+ghost use Rattle.judge.specs.Steps.{Counts, step_of, stepped};
 ghost use Rattle.rules.specs.Commands.{act_of};
+ghost use Rattle.rules.specs.State.{state_of};
 
+use super::acts::act_of;
 use super::plays::play;
-use acts::act_of;
 use fields::Field;
 use rules::{Answer, Board, Tally};
 
@@ -26,8 +27,10 @@ pub fn step(
     numbers: &mut [u32],
     status: &mut [u8],
 ) -> Stepped
-    requires { tally.fields ≤ log_fields }
-    ensures { stepped result selectors.new numbers.new status.new ≡ step_of (act_of field) (held_of board tally selectors.old numbers.old status.old) }
+    requires fields_le_log_fields { (tally.fields ≤ log_fields) × (tally.mallocs ≤ log_fields) }
+    requires counts { Counts tally status.old }
+    ensures status_after { stepped result selectors.new numbers.new status.new ≡ step_of (act_of field) (state_of board tally selectors.old numbers.old status.old) }
+    ensures counts_2 { Counts result.tally status.new }
 {
     let mut pointers = board.pointers;
     let mut variables = board.variables;

@@ -1,9 +1,9 @@
 -- The checks of a command, whatever is called a race: what it says that they pass, part by part.
 -- Assumes nothing.
 use Prim.Native.Nat.{ℕ}
-use mathlib.Core.Path.{◌≡◌, ap, refl}
+use mathlib.Core.Path.{◌≡◌, refl}
 use mathlib.Core.Bool.{Bool, true}
-use mathlib.Core.List.{List, [], ◌++◌, ◌∷◌, map}
+use mathlib.Core.List.{List, [], ◌++◌, ◌∷◌}
 use native.Mathlib.Omega.{arith}
 use Rattle.fields.specs.declared.Refusal.{Refusal}
 use Rattle.fields.specs.declared.Refusal.TheVariants.{AssertionFails, LiveCell, TooManyMallocs, UnsetPointer}
@@ -14,7 +14,7 @@ use Rattle.rules.specs.declared.Act.{Act}
 use Rattle.rules.specs.declared.Answer.{Answer}
 use Rattle.rules.specs.declared.Answer.TheVariants.{Go, Race, Refuse}
 use Rattle.rules.specs.State.{State}
-use Rattle.rules.specs.Acts.{How, Touch, compared, compare, frees, gives, load, source, strict, target, through, touched, touching}
+use Rattle.rules.specs.Acts.{gives, through}
 use Rattle.rules.specs.Check.{check_by, each, holds, points, room_for, vacant}
 
 -- ---- tests that say something else than Go where they do not pass
@@ -52,25 +52,6 @@ clear_each good says (k ∷ l) e = (e.0, clear_each good says l e.1)
 pub each_same : {K A : Type 0} (good good' : K → Bool) (says : K → A) (l : List K) → ((k : K) → good' k ≡ good k) → each good' says l ≡ each good says l
 each_same good good' says [] f = refl
 each_same good good' says (k ∷ l) f = rw (f k, each_same good good' says l f) refl
-
--- ---- the variables that a command touches, however: those asserted on, the one freed, those gone through
-variables_join : (how : How) (ps : List ℕ) (ts : List Touch) → map (λ (t : Touch). t.variable) (touching how ps ++ ts) ≡ ps ++ map (λ (t : Touch). t.variable) ts
-variables_join how [] ts = refl
-variables_join how (p ∷ ps) ts = ap (λ (l : List ℕ). p ∷ l) (variables_join how ps ts)
-
-variables_of : (how : How) (ps : List ℕ) → map (λ (t : Touch). t.variable) (touching how ps) ≡ ps
-variables_of how [] = refl
-variables_of how (p ∷ ps) = ap (λ (l : List ℕ). p ∷ l) (variables_of how ps)
-
-pub touched_all : (a : Act) → touched a ≡ compared a.guard ++ (frees a.change ++ through a.change)
-touched_all a =
-    let c = a.change in
-    rw (
-      variables_join compare (compared a.guard) (touching strict (frees c) ++ (touching strict (target c) ++ touching load (source c))),
-      variables_join strict (frees c) (touching strict (target c) ++ touching load (source c)),
-      variables_join strict (target c) (touching load (source c)),
-      variables_of load (source c),
-    ) refl
 
 -- ---- all the checks
 pub record PassedBy (races : List (Test Answer)) (a : Act) (s : State) : Type 0 where

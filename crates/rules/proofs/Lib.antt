@@ -1,6 +1,5 @@
 -- What other crates' proofs take from the rules.
 -- Assumes nothing.
 pub mod Checks
-pub mod Sizes
 pub mod Tallies
 pub mod Printing

@@ -1,6 +1,6 @@
 -- A command is a guard and a change over the paper's pointer and data expressions (source 004, section 2).
 -- Here: what an expression stands for, and which pointer variables and cells the checks of a command look at. Assumes nothing.
-use Rattle.std.specs.Prelude.{ℕ, ◌+◌, ◌*◌, ◌%◌, List, [], ◌∷◌, ◌++◌, map}
+use Rattle.std.specs.Prelude.{ℕ, ◌+◌, ◌*◌, ◌%◌, List, [], ◌∷◌, ◌++◌}
 use Rattle.fields.specs.declared.RecordedCell.{RecordedCell}
 use Rattle.rules.specs.declared.Place.{Place}
 use Rattle.rules.specs.declared.Place.TheVariants.{PointerWord, SelectorWord}
@@ -57,67 +57,43 @@ value_through (Held e) = data_through e
 value_through (Constant n) = []
 value_through (Sum y z) = []
 
--- ---- where a race is looked for in an assertion: at p before q
+abbrev pub target : Change → List ℕ
+target Stay = []
+target (Allocate p c d) = []
+target (Release p) = []
+target (Move x y) = pointer_through x
+target (Put x v) = data_through x
+
+abbrev pub source : Change → List ℕ
+source Stay = []
+source (Allocate p c d) = []
+source (Release p) = []
+source (Move x y) = pointer_through y
+source (Put x v) = value_through v
+
+abbrev pub through : Change → List ℕ
+through c = target c ++ source c
+
+-- ---- where a race is looked for: those asserted on, p before q; the one freed; those gone through
 abbrev pub compared : Guard → List ℕ
 compared Always = []
 compared (Same wanted p q) = p ∷ q ∷ []
 compared (Equal wanted x y) = []
 
--- ---- what the checks of a change look at: the pointer variable that it frees, those that it goes through by what is assigned to and by
--- what is assigned, and the cell that it gives out
-pub record Looks : Type 0 where
-  pub frees : List ℕ
-  pub target : List ℕ
-  pub source : List ℕ
-  pub gives : List RecordedCell
-
-abbrev pub looks : List ℕ → List ℕ → List ℕ → List RecordedCell → Looks
-looks frees target source gives = record { frees = frees; target = target; source = source; gives = gives }
-
--- one line for each kind of change
-abbrev pub looks_of : Change → Looks
-looks_of Stay = looks [] [] [] []
-looks_of (Allocate p c d) = looks [] [] [] (c ∷ [])
-looks_of (Release p) = looks (p ∷ []) [] [] []
-looks_of (Move x y) = looks [] (pointer_through x) (pointer_through y) []
-looks_of (Put x v) = looks [] (data_through x) (value_through v) []
-
 abbrev pub frees : Change → List ℕ
-frees c = (looks_of c).frees
+frees Stay = []
+frees (Allocate p c d) = []
+frees (Release p) = p ∷ []
+frees (Move x y) = []
+frees (Put x v) = []
 
-abbrev pub target : Change → List ℕ
-target c = (looks_of c).target
-
-abbrev pub source : Change → List ℕ
-source c = (looks_of c).source
-
-abbrev pub through : Change → List ℕ
-through c = target c ++ source c
-
-abbrev pub gives : Change → List RecordedCell
-gives c = (looks_of c).gives
-
--- how a pointer variable is touched: it is freed, or stored or written through; it is loaded or read through; it is asserted on
-pub data How : Type 0 where
-  strict : How
-  load : How
-  compare : How
-
-pub record Touch : Type 0 where
-  pub how : How
-  pub variable : ℕ
-
-abbrev pub touching : How → List ℕ → List Touch
-touching how [] = []
-touching how (p ∷ ps) = record { how = how; variable = p } ∷ touching how ps
-
-abbrev pub touches : Act → List Touch
-touches a =
-    touching compare (compared a.guard)
-    ++ (touching strict (frees a.change)
-    ++ (touching strict (target a.change)
-    ++ touching load (source a.change)))
-
--- however they are touched
 abbrev pub touched : Act → List ℕ
-touched a = map (λ (t : Touch). t.variable) (touches a)
+touched a = compared a.guard ++ (frees a.change ++ through a.change)
+
+-- ---- the cell that a malloc gives out
+abbrev pub gives : Change → List RecordedCell
+gives Stay = []
+gives (Allocate p c d) = c ∷ []
+gives (Release p) = []
+gives (Move x y) = []
+gives (Put x v) = []

@@ -3,22 +3,23 @@
 use Rattle.std.specs.Prelude.{ℕ, ◌≡◌, refl, Bool, true, false, ◌&&◌, List, [], ◌∷◌, ◌++◌, eqb, T, get_or}
 use Rattle.fields.specs.declared.Field.{Field}
 use Rattle.fields.specs.Limits.{log_fields}
-use Rattle.fields.specs.Rows.{row_of, is_tag, widths_by, length_by}
+use Rattle.fields.specs.Rows.{row_of, is_tag, widths_of, length_of}
 use Rattle.fields.specs.Numbers.{field_with, numbers_of}
 use Rattle.fields.specs.Checks.{may_name}
-use Rattle.fields.specs.Read.{field_by, read_by}
-use Rattle.fields.specs.Write.{bytes_by}
+use Rattle.fields.specs.Read.{field_of, read_field}
+use Rattle.fields.specs.Write.{field_bytes}
 use Rattle.rules.specs.declared.Place.{Place}
 use Rattle.rules.specs.declared.Place.TheVariants.{PointerWord}
 use Rattle.rules.specs.declared.DataPlace.{DataPlace}
 use Rattle.rules.specs.declared.DataPlace.TheVariants.{VariableNumber}
 use Rattle.rules.specs.Words.{is_valid, cell_of, is_unset, invalidated, after_free}
-use Rattle.rules.specs.State.{fresh, word, write, datum, store}
+use Rattle.rules.specs.State.{State, fresh, word, write, datum, store}
 use Rattle.rules.specs.Commands.{command_of}
 use Rattle.rules.specs.Check.{same_as_wanted, check_by}
 use Rattle.rules.specs.Effect.{give, free, count_field}
-use Rattle.rules.specs.Log.{located, parse, run_bytes}
-use Rattle.rules.specs.Replay.{bytes_of, replay_bytes, starting_data}
+use Rattle.rules.specs.Run.{run}
+use Rattle.rules.specs.Log.{located, run_bytes}
+use Rattle.rules.specs.Replay.{bytes_of, replay, starting_data}
 use Rattle.rules.specs.Verdicts.{accepted, race, refused, Line, line, line_of}
 
 -- what a case tells besides its verdict: a word or a number of the state that is left, or a field
@@ -49,24 +50,22 @@ same_line l m = alike l.word m.word && alike l.numbers m.numbers
 abbrev pub same_field : Field → Field → Bool
 same_field f g = alike (f.tag ∷ numbers_of f) (g.tag ∷ numbers_of g)
 
--- of the bytes of a log: the state that it leaves, and the fields that are read
-abbrev pub fact_holds : List ℕ → Fact → Bool
-fact_holds log (word_is x w) = eqb (word (run_bytes log_fields log fresh).state x) w
-fact_holds log (datum_is x n) = eqb (datum (run_bytes log_fields log fresh).state x) n
-fact_holds log (field_is i f) = same_field (get_or (parse log_fields log).fields i (field_with 0 [])) f
+-- of a log, and of the state that it leaves
+abbrev pub fact_holds : List Field → State → Fact → Bool
+fact_holds log s (word_is x w) = eqb (word s x) w
+fact_holds log s (datum_is x n) = eqb (datum s x) n
+fact_holds log s (field_is i f) = same_field (get_or log i (field_with 0 [])) f
 
-abbrev pub facts_hold : List ℕ → List Fact → Bool
+abbrev pub facts_hold : List Field → List Fact → Bool
 facts_hold log [] = true
-facts_hold log (fact ∷ facts) = fact_holds log fact && facts_hold log facts
+facts_hold log (fact ∷ facts) = fact_holds log (run log fresh).state fact && facts_hold log facts
 
--- each log as bytes, read and judged
 abbrev pub right : List Case → Bool
 right [] = true
 right (c ∷ cs) =
-    let log = bytes_of c.log in
-    same_line (line_of (located log (run_bytes log_fields log fresh).verdict)) c.verdict
-    && facts_hold log c.facts
-    && facts_hold (replay_bytes log_fields log) c.replayed
+    same_line (line_of (located (bytes_of c.log) (run c.log fresh).verdict)) c.verdict
+    && facts_hold c.log c.facts
+    && facts_hold (replay fresh c.log) c.replayed
     && right cs
 
 -- ---- fields: a tag, and its numbers in the order thread, first, second, third, cell, number; those left out are 0
@@ -85,9 +84,6 @@ late_read = field_with 6 (1 ∷ 24 ∷ 24 ∷ [])
 
 abbrev pub log_e : List Field
 log_e = M 0 5 0 ∷ M 1 6 0 ∷ field_with 5 (0 ∷ 0 ∷ 0 ∷ 1 ∷ []) ∷ free_of 0 ∷ M 0 5 0 ∷ field_with 4 (0 ∷ 16 ∷ 0 ∷ 0 ∷ []) ∷ []
-
-abbrev pub log_l : List Field
-log_l = M 0 5 7 ∷ free_of 0 ∷ M 0 5 9 ∷ field_with 6 (0 ∷ 0 ∷ 0 ∷ []) ∷ []
 
 abbrev pub log_p : List Field
 log_p =
@@ -164,7 +160,7 @@ cases =
     -- K: M(0,5,0); assert p0 ≠ p0
     ∷ case (M 0 5 0 ∷ field_with 10 (0 ∷ 0 ∷ 0 ∷ []) ∷ []) refused (14 ∷ 1 ∷ 11 ∷ []) [] []
     -- L: M(0,5,7); free p0; M(0,5,9); x0 := p0.data
-    ∷ case log_l accepted (4 ∷ 2 ∷ 1 ∷ []) (datum_is (VariableNumber 0) 7 ∷ []) (field_is 2 (M 0 1 7) ∷ [])
+    ∷ case (M 0 5 7 ∷ free_of 0 ∷ M 0 5 9 ∷ field_with 6 (0 ∷ 0 ∷ 0 ∷ []) ∷ []) accepted (4 ∷ 2 ∷ 1 ∷ []) (datum_is (VariableNumber 0) 7 ∷ []) (field_is 2 (M 0 1 7) ∷ [])
     -- O: M(0,5,0); free p0; M(0,5,0); thread 0: p16 := p0.0; free p16, which leaves the word that it met
     ∷ case (M 0 5 0 ∷ free_of 0 ∷ M 0 5 0 ∷ field_with 4 (0 ∷ 16 ∷ 0 ∷ 0 ∷ []) ∷ free_of 16 ∷ []) race (4 ∷ 0 ∷ 16 ∷ 34 ∷ []) (word_is (PointerWord 16) 3072 ∷ []) []
     -- P: x0 := 4294967295; x1 := 1; x2 := x0 + x1; assert x2 = x3
@@ -188,9 +184,9 @@ cases =
     -- unset handles in assertions, and in cas fields
     ∷ (unset_cases (field_with 9 (0 ∷ 0 ∷ 1 ∷ [])) (field_with 10 (0 ∷ 0 ∷ 1 ∷ [])) ++ unset_cases (cas_done 0 0 1 1) (cas_failed 0 0 1 1))
 
-pub cases-hold : T (right cases)
-unfolding row_of is_tag widths_by length_by may_name field_by read_by bytes_by is_valid cell_of is_unset invalidated after_free fresh write store command_of same_as_wanted check_by give free count_field starting_data replay_bytes
-cases-hold = tt
+pub cases_hold : T (right cases)
+unfolding row_of widths_of length_of field_bytes is_valid cell_of is_unset invalidated after_free fresh write store command_of same_as_wanted check_by give free count_field starting_data
+cases_hold = tt
 
 -- C as the 28 bytes that document 01 gives
 abbrev pub bytes_c : List ℕ
@@ -206,5 +202,5 @@ bytes_c =
     ∷ []
 
 pub bytes_c-race : line_of (located bytes_c (run_bytes log_fields bytes_c fresh).verdict) ≡ line race (3 ∷ 1 ∷ 24 ∷ 22 ∷ [])
-unfolding row_of is_tag widths_by length_by may_name field_by read_by is_valid cell_of is_unset invalidated after_free fresh write store command_of same_as_wanted check_by give free count_field
+unfolding row_of is_tag widths_of length_of may_name field_of read_field is_valid cell_of is_unset invalidated after_free fresh write store command_of same_as_wanted check_by give free count_field
 bytes_c-race = refl

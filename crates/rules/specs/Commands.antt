@@ -1,6 +1,6 @@
 -- What each tag's command is: one line for each, of the numbers of its row (the rows themselves are in the crate fields).
 -- Assumes nothing.
-use Rattle.std.specs.Prelude.{ℕ, true, false, List, [], ◌∷◌, ◌≡◌, get_or}
+use Rattle.std.specs.Prelude.{ℕ, true, false, List, [], ◌∷◌, get_or}
 use Rattle.fields.specs.declared.Field.{Field}
 use Rattle.rules.specs.declared.PExp.TheVariants.{PointerVariable, SelectorOf}
 use Rattle.rules.specs.declared.DExp.TheVariants.{DataVariable, DataOf}
@@ -61,7 +61,3 @@ command_of tag = get_or commands tag no_command
 
 abbrev pub act_of : Field → Act
 act_of f = command_of f.tag f
-
--- what decoding promises: the field, and its command
-abbrev pub Decodes : Field → Act → Type 0
-Decodes f a = a ≡ act_of f

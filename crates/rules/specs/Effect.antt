@@ -15,9 +15,6 @@ change_word change i words = set words i (change (word_at words i))
 abbrev pub change_own : (ℕ → ℕ) → ℕ → List ℕ → List ℕ
 change_own change c selectors = change_word change (2 * c + 1) (change_word change (2 * c) selectors)
 
-abbrev pub count_malloc : State → State
-count_malloc s = with_tally s.fields (s.mallocs + 1) s
-
 -- malloc: the cell becomes live, and p points to it, valid. A never-used cell takes the field's data, and its selectors are
 -- unset and valid; a reused cell keeps its data and both selector words, marks included
 unfoldable pub give : ℕ → ℕ → ℕ → State → State
@@ -25,7 +22,8 @@ give p c d s =
     let new = eqb (status_of s c) never_used in
     with_words (set s.pointers p c) (cond new (change_own (λ w. unset) c s.selectors) s.selectors)
     (with_data s.variables (cond new (set s.numbers c d) s.numbers)
-    (with_status (set s.status c live) (count_malloc s)))
+    (with_status (set s.status c live)
+    (with_tally s.fields (s.mallocs + 1) s)))
 
 -- free: the cell becomes freed; every word that holds it loses validity, and so do both of its own selectors, unset or not
 unfoldable pub free : ℕ → State → State

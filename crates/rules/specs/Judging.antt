@@ -1,10 +1,9 @@
 -- Judging a log over what the caller lends: 1, 2, then field by field from the fresh state, whatever the buffers held.
 -- Refusals 1 and 2 leave everything as it was, and memory past the named sizes is never changed. Assumes nothing.
-use Rattle.std.specs.Prelude.{ℕ, Bool, true, false, ◌&&◌, List, [], ◌∷◌, ◌++◌, map, leb, length, drop}
-use Rattle.fields.specs.declared.Refusal.{Refusal}
+use Rattle.std.specs.Prelude.{ℕ, Bool, ◌&&◌, List, [], ◌∷◌, ◌++◌, leb, length, drop}
 use Rattle.fields.specs.declared.Refusal.TheVariants.{LogTooLong, BufferTooShort}
 use Rattle.fields.specs.Limits.{log_bytes, log_fields, cells}
-use Rattle.fields.specs.Order.{Test, test, in_order}
+use Rattle.fields.specs.Order.{test, in_order}
 use Rattle.rules.specs.declared.Tally.{Tally}
 use Rattle.rules.specs.declared.Verdict.{Verdict}
 use Rattle.rules.specs.declared.Verdict.TheVariants.{Declined}
@@ -32,35 +31,14 @@ lent pointers selectors variables numbers status tally =
       tally = tally;
     }
 
--- each buffer, and its size
-pub record Buffer : Type 0 where
-  pub held : Lent → List ℕ
-  pub size : ℕ
-
-abbrev pub buffer : (Lent → List ℕ) → ℕ → Buffer
-buffer held size = record { held = held; size = size }
-
-abbrev pub buffers : List Buffer
-buffers =
-    buffer (λ l. l.pointers) board_pointers
-    ∷ buffer (λ l. l.selectors) heap_selectors
-    ∷ buffer (λ l. l.variables) board_variables
-    ∷ buffer (λ l. l.numbers) cells
-    ∷ buffer (λ l. l.status) cells
-    ∷ []
-
-abbrev pub lengths : Lent → List ℕ
-lengths l = map (λ (b : Buffer). length (b.held l)) buffers
-
--- none of these lengths is below the size of its buffer
-abbrev pub reach : List Buffer → List ℕ → Bool
-reach [] ns = true
-reach (b ∷ bs) [] = false
-reach (b ∷ bs) (n ∷ ns) = leb b.size n && reach bs ns
-
 -- no heap buffer is shorter than its size
 unfoldable pub long_enough : Lent → Bool
-long_enough l = reach buffers (lengths l)
+long_enough l =
+    leb board_pointers (length l.pointers)
+    && leb heap_selectors (length l.selectors)
+    && leb board_variables (length l.variables)
+    && leb cells (length l.numbers)
+    && leb cells (length l.status)
 
 -- what is lent, with a state at the fronts of the buffers and its tally
 abbrev pub showing : State → Lent → Lent
@@ -78,15 +56,10 @@ pub record Judged : Type 0 where
 abbrev pub judged : Verdict → Lent → Judged
 judged verdict after = record { verdict = verdict; after = after }
 
--- the run from the fresh state, over buffers that are long enough
-unfoldable pub judge_fields : List ℕ → Lent → Judged
-judge_fields log l =
-    let end = run_bytes log_fields log fresh in
-    judged (located log end.verdict) (showing end.state l)
-
--- 1 and 2
-abbrev pub lent_checks : List ℕ → Lent → List (Test Refusal)
-lent_checks log l = test (leb (length log) log_bytes) LogTooLong ∷ test (long_enough l) BufferTooShort ∷ []
-
 unfoldable pub judge_log : List ℕ → Lent → Judged
-judge_log log l = in_order (λ r. judged (Declined r) l) (judge_fields log l) (lent_checks log l)
+judge_log log l =
+    let end = run_bytes log_fields log fresh in
+    in_order (λ r. judged (Declined r) l) (judged (located log end.verdict) (showing end.state l))
+    (test (leb (length log) log_bytes) LogTooLong
+    ∷ test (long_enough l) BufferTooShort
+    ∷ [])

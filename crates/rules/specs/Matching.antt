@@ -9,10 +9,11 @@ use Rattle.rules.specs.declared.Place.TheVariants.{PointerWord, SelectorWord}
 use Rattle.rules.specs.declared.Answer.TheVariants.{Go}
 use Rattle.rules.specs.Words.{unset, is_valid}
 use Rattle.rules.specs.State.{State, live, status_of, number_at, word}
+use Rattle.rules.specs.Acts.{gives}
 use Rattle.rules.specs.Commands.{act_of}
 use Rattle.rules.specs.Check.{check}
 use Rattle.rules.specs.Effect.{effect}
-use Rattle.rules.specs.Replay.{Matching, rematched}
+use Rattle.rules.specs.Replay.{Matching, rematch}
 
 abbrev pub Live : State → ℕ → Type 0
 Live s c = status_of s c ≡ live
@@ -53,4 +54,4 @@ Along X (f ∷ fs) (g ∷ gs) R S m =
     X R S m
     × (check (act_of f) R ≡ Go)
     × (check (act_of g) S ≡ Go)
-    × Along X fs gs (effect (act_of f) R) (effect (act_of g) S) (rematched f g m)
+    × Along X fs gs (effect (act_of f) R) (effect (act_of g) S) (rematch (gives (act_of f).change) (gives (act_of g).change) m)

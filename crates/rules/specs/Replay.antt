@@ -38,20 +38,20 @@ rematch [] copies m = m
 rematch (c ∷ cs) [] m = m
 rematch (c ∷ cs) (k ∷ copies) m = rematch cs copies (λ r. record { 0 = cond (eqb c.0 r.0) (from_replay_log k).0 (m r).0 })
 
--- ---- the copy of a command, the recording being at s, and m its matching: a malloc names cell k
+-- ---- the copy of a command, the recording being at s: a malloc names cell k
 -- the data that cell c starts with, given out by a malloc with data d: d where it was not used before, else what it held
 unfoldable pub starting_data : State → RecordedCell → ℕ → ℕ
 starting_data s c d = cond (eqb (status_of s c.0) never_used) d (number_at s.numbers c.0)
 
-abbrev pub copy_change : State → Matching → ReplayCell → Change → Change
-copy_change s m k Stay = Stay
-copy_change s m k (Allocate p c d) = Allocate p (to_replay_log k) (starting_data s c d)
-copy_change s m k (Release p) = Release p
-copy_change s m k (Move x y) = Move x y
-copy_change s m k (Put x v) = Put x v
+abbrev pub copy_change : State → ReplayCell → Change → Change
+copy_change s k Stay = Stay
+copy_change s k (Allocate p c d) = Allocate p (to_replay_log k) (starting_data s c d)
+copy_change s k (Release p) = Release p
+copy_change s k (Move x y) = Move x y
+copy_change s k (Put x v) = Put x v
 
-abbrev pub copy_act : State → Matching → ReplayCell → Act → Act
-copy_act s m k a = record { guard = a.guard; change = copy_change s m k a.change }
+abbrev pub copy_act : State → ReplayCell → Act → Act
+copy_act s k a = record { guard = a.guard; change = copy_change s k a.change }
 
 -- ---- the copy of a field: the cell and the data of a malloc's copy, and all other numbers the field's own
 abbrev pub cell_from : List RecordedCell → RecordedCell → RecordedCell
@@ -77,21 +77,17 @@ recast copy f =
       number = data_from copy f.number;
     }
 
-abbrev pub copy_field : State → Matching → ReplayCell → Field → Field
-copy_field s m k f = recast (copy_change s m k (act_of f).change) f
+abbrev pub copy_field : State → ReplayCell → Field → Field
+copy_field s k f = recast (copy_change s k (act_of f).change) f
 
--- the matching after a field and its copy
-abbrev pub rematched : Field → Field → Matching → Matching
-rematched f copy m = rematch (gives (act_of f).change) (gives (act_of copy).change) m
-
--- ---- the replay of the fields that are left, the recording being at s, and m its matching
+-- ---- the replay of the fields that are left, the recording being at s
 -- the tally says how many mallocs came before, so which malloc the next one is
 abbrev pub next_cell : State → ReplayCell
 next_cell s = record { 0 = s.mallocs }
 
-abbrev pub replay : State → Matching → List Field → List Field
-replay s m [] = []
-replay s m (f ∷ fs) = let copy = copy_field s m (next_cell s) f in copy ∷ replay (effect (act_of f) s) (rematched f copy m) fs
+abbrev pub replay : State → List Field → List Field
+replay s [] = []
+replay s (f ∷ fs) = copy_field s (next_cell s) f ∷ replay (effect (act_of f) s) fs
 
 -- ---- as bytes: of a log of at most n fields
 abbrev pub bytes_of : List Field → List ℕ
@@ -99,4 +95,4 @@ bytes_of [] = []
 bytes_of (f ∷ fs) = field_bytes f ++ bytes_of fs
 
 unfoldable pub replay_bytes : ℕ → List ℕ → List ℕ
-replay_bytes n log = bytes_of (replay fresh start (parse n log).fields)
+replay_bytes n log = bytes_of (replay fresh (parse n log).fields)

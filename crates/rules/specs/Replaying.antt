@@ -1,8 +1,8 @@
 -- Writing the replay of a log over what the caller lends and an output: 1, 2, 15, then as judging. Where the log is accepted the
 -- output's front is the replay; else the output is as it was. Bytes past the log's length keep what they held. Assumes nothing.
 use Rattle.std.specs.Prelude.{ℕ, List, [], ◌∷◌, ◌++◌, leb, length, drop}
-use Rattle.fields.specs.declared.Refusal.TheVariants.{OutputTooShort}
-use Rattle.fields.specs.Limits.{log_fields}
+use Rattle.fields.specs.declared.Refusal.TheVariants.{LogTooLong, BufferTooShort, OutputTooShort}
+use Rattle.fields.specs.Limits.{log_bytes, log_fields}
 use Rattle.fields.specs.Order.{test, in_order}
 use Rattle.rules.specs.declared.Verdict.{Verdict}
 use Rattle.rules.specs.declared.Verdict.TheVariants.{Declined}
@@ -10,7 +10,7 @@ use Rattle.rules.specs.State.{fresh}
 use Rattle.rules.specs.Run.{Ending, Accepted, Raced, Refused}
 use Rattle.rules.specs.Log.{located, run_bytes}
 use Rattle.rules.specs.Replay.{replay_bytes}
-use Rattle.rules.specs.Judging.{Lent, lent_checks, showing}
+use Rattle.rules.specs.Judging.{Lent, long_enough, showing}
 
 -- the verdict, the output and what is lent, afterwards
 pub record Replayed : Type 0 where
@@ -26,14 +26,11 @@ output_after (Accepted fields mallocs live) log out = replay_bytes log_fields lo
 output_after (Raced field thread variable) log out = out
 output_after (Refused r field) log out = out
 
--- the run from the fresh state, over buffers that are long enough and an output with room
-unfoldable pub replay_fields : List ℕ → List ℕ → Lent → Replayed
-replay_fields log out l =
-    let end = run_bytes log_fields log fresh in
-    replayed (located log end.verdict) (output_after end.verdict log out) (showing end.state l)
-
--- 1, 2, then 15
 unfoldable pub replay_log : List ℕ → List ℕ → Lent → Replayed
 replay_log log out l =
-    in_order (λ r. replayed (Declined r) out l) (replay_fields log out l)
-    (lent_checks log l ++ (test (leb (length log) (length out)) OutputTooShort ∷ []))
+    let end = run_bytes log_fields log fresh in
+    in_order (λ r. replayed (Declined r) out l) (replayed (located log end.verdict) (output_after end.verdict log out) (showing end.state l))
+    (test (leb (length log) log_bytes) LogTooLong
+    ∷ test (long_enough l) BufferTooShort
+    ∷ test (leb (length log) (length out)) OutputTooShort
+    ∷ [])

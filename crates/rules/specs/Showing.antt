@@ -5,13 +5,11 @@ use Rattle.std.specs.Prelude.{ℕ, ◌+◌, cond, List, [], ◌∷◌, ◌≡◌
 use Rattle.fields.specs.declared.Field.{Field}
 use Rattle.fields.specs.declared.RecordedCell.{RecordedCell}
 use Rattle.fields.specs.declared.Refusal.TheVariants.{FieldNotReached, LogTooLong}
-use Rattle.fields.specs.Answers.{Numbered, numbered}
 use Rattle.fields.specs.Bytes.{total}
 use Rattle.fields.specs.Limits.{header_bytes, log_bytes, log_fields, log_mallocs}
 use Rattle.fields.specs.Order.{in_order, test}
 use Rattle.fields.specs.Read.{field_of, tag_in, value_in}
-use Rattle.fields.specs.Refusals.{number_of}
-use Rattle.fields.specs.Rows.{field_size, row_of, widths_of}
+use Rattle.fields.specs.Rows.{length_of, row_of, widths_of}
 use Rattle.rules.specs.declared.Choice.{Choice}
 use Rattle.rules.specs.declared.Choice.TheVariants.{Recording, Replay}
 use Rattle.rules.specs.declared.Shown.{Shown}
@@ -41,7 +39,7 @@ fields_read log = roomy 0 (parse log_fields log).fields
 -- ---- the answer: where the field's bytes stand in the log and how many they are, or why there are none; and the part that it names
 -- how many bytes the field at the front of a part has
 abbrev pub size_in : List ℕ → ℕ
-size_in part = field_size (tag_in part)
+size_in part = header_bytes + length_of (tag_in part)
 
 unfoldable pub shown_in : List ℕ → ℕ → Shown
 shown_in log n =
@@ -56,19 +54,6 @@ part_by (Refused r field) log = []
 
 abbrev pub part_in : List ℕ → ℕ → List ℕ
 part_in log n = part_by (shown_in log n) log
-
--- ---- what showing promises: both logs, the choice of one and a field's number; and the answer, or the part
-abbrev pub Finds : List ℕ → List ℕ → Choice → ℕ → Shown → Type 0
-Finds recorded replay choice n answer = answer ≡ shown_in (chosen choice recorded replay) n
-
-abbrev pub Shows : List ℕ → List ℕ → Choice → ℕ → List ℕ → Type 0
-Shows recorded replay choice n part = part ≡ part_in (chosen choice recorded replay) n
-
--- 0, or the number of a refusal, and the values that are told with it: where the part begins and how many bytes it has; of a refusal
--- its field number
-abbrev pub shown_line : Shown → Numbered
-shown_line (Part at size) = numbered 0 (at ∷ size ∷ [])
-shown_line (Refused r field) = numbered (number_of r) (field ∷ [])
 
 -- ---- parts that are equal but for a malloc's cell and data
 -- the cells that the command of a part's field gives out

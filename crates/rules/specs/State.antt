@@ -119,16 +119,6 @@ with_tally fields mallocs s =
       mallocs = mallocs;
     }
 
--- one list alone
-abbrev pub with_pointers : List ℕ → State → State
-with_pointers pointers s = with_words pointers s.selectors s
-
-abbrev pub with_variables : List ℕ → State → State
-with_variables variables s = with_data variables s.numbers s
-
-abbrev pub with_numbers : List ℕ → State → State
-with_numbers numbers s = with_data s.variables numbers s
-
 abbrev pub pointer : State → ℕ → ℕ
 pointer s p = word_at s.pointers p
 

@@ -189,25 +189,25 @@ impl Verdict {
     {
         match self {
             Verdict::Accepted(fields, mallocs, live) => Printed {
-                word: [b'a', b'c', b'c', b'e', b'p', b't', b'e', b'd'],
+                word: *b"accepted",
                 letters: 8,
                 numbers: [fields, mallocs, live, 0],
                 count: 3,
             },
             Verdict::Raced(field, thread, variable, offset) => Printed {
-                word: [b'r', b'a', b'c', b'e', 0, 0, 0, 0],
+                word: *b"race\0\0\0\0",
                 letters: 4,
                 numbers: [field, thread as u32, variable as u32, offset],
                 count: 4,
             },
             Verdict::Refused(why, field, offset) => Printed {
-                word: [b'r', b'e', b'f', b'u', b's', b'e', b'd', 0],
+                word: *b"refused\0",
                 letters: 7,
                 numbers: [why.number() as u32, field, offset, 0],
                 count: 3,
             },
             Verdict::Declined(why) => Printed {
-                word: [b'r', b'e', b'f', b'u', b's', b'e', b'd', 0],
+                word: *b"refused\0",
                 letters: 7,
                 numbers: [why.number() as u32, 0, 0, 0],
                 count: 2,

@@ -7,19 +7,19 @@ use lib.Dec.{leb, ltb}
 use lib.ListN.{drop, drop_of_length-le, length, length-drop}
 use lib.Seq.{drop-drop}
 use mathlib.Core.Bool.{Bool, true, false, cond}
-use mathlib.Core.List.{List, [], ◌∷◌}
+use mathlib.Core.List.{List, [], ◌∷◌, ◌++◌}
 use mathlib.Core.Path.{◌≡◌, refl, ap, sym, ◌∙◌}
 use native.Mathlib.Nat.{le_of_suc-le-suc, not-suc-le-zero, zero-add}
 use native.Mathlib.Omega.{arith}
 use Rattle.fields.proofs.Passing.{all-passed, either}
 use Rattle.fields.specs.declared.Field.{Field}
 use Rattle.fields.specs.declared.Refusal.TheVariants.{FieldNotReached, LogTooLong}
-use Rattle.fields.specs.Limits.{log_bytes, log_fields, log_mallocs}
+use Rattle.fields.specs.Checks.{value_checks}
+use Rattle.fields.specs.Limits.{header_bytes, log_bytes, log_fields, log_mallocs}
 use Rattle.fields.specs.Order.{test}
-use Rattle.fields.specs.Read.{Got, Reading, Refused as Unread, read_field}
-use Rattle.fields.specs.Rows.{field_size}
-use Rattle.fields.proofs.Fetching.{fetched}
-use Rattle.fields.proofs.Lists.{some_left}
+use Rattle.fields.specs.Read.{Got, Reading, Refused as Unread, field_of, framing_checks, read_field, tag_in, value_in}
+use Rattle.fields.specs.Rows.{length_of, row_of}
+use Rattle.judge.proofs.Running.{got_passed, some_left}
 use Rattle.rules.specs.declared.Shown.{Shown}
 use Rattle.rules.specs.declared.Shown.TheVariants.{Part, Refused}
 use Rattle.rules.specs.Log.{offset_of, onward, parse}
@@ -39,7 +39,7 @@ few_parsed (suc k) [] = omega arith
 few_parsed (suc k) (x ∷ b) = by (read_field (x ∷ b)) (λ rest. few_parsed k rest)
   where
     by : (r : Reading) → ((rest : List ℕ) → length (parse k rest).fields ≤ k) → length (onward r (x ∷ b) (λ rest. parse k rest)).fields ≤ suc k
-    by (Got f) few = omega (arith, few (drop (field_size f.tag) (x ∷ b)))
+    by (Got f) few = omega (arith, few (drop (header_bytes + length_of f.tag) (x ∷ b)))
     by (Unread r) few = omega arith
 
 few_roomy : (before : ℕ) (fs : List Field) → length (roomy before fs) ≤ length fs
@@ -64,8 +64,8 @@ count_some : (k before : ℕ) (b : List ℕ) → 0 < length b → count (suc k) 
 count_some k before [] some = absurd (not-suc-le-zero some)
 count_some k before (x ∷ b) some = by (read_field (x ∷ b))
   where
-    told : (f : Field) (t : Bool) → length (cond t (f ∷ roomy (before + mallocs_of f) (parse k (drop (field_size f.tag) (x ∷ b))).fields) [])
-        ≡ count_by k (x ∷ b) (cond t (Whole (field_size f.tag) (before + mallocs_of f)) Stop)
+    told : (f : Field) (t : Bool) → length (cond t (f ∷ roomy (before + mallocs_of f) (parse k (drop (header_bytes + length_of f.tag) (x ∷ b))).fields) [])
+        ≡ count_by k (x ∷ b) (cond t (Whole (header_bytes + length_of f.tag) (before + mallocs_of f)) Stop)
     told f true = refl
     told f false = refl
 
@@ -84,13 +84,13 @@ pub fronted : (b : List ℕ) (before size mallocs : ℕ) → front_of before (re
 fronted b before size mallocs e = by (read_field b) refl e
   where
     told : (f : Field) (t : Bool) → read_field b ≡ Got f → leb (before + mallocs_of f) log_mallocs ≡ t
-        → cond t (Whole (field_size f.tag) (before + mallocs_of f)) Stop ≡ Whole size mallocs → Fronted b size mallocs
+        → cond t (Whole (header_bytes + length_of f.tag) (before + mallocs_of f)) Stop ≡ Whole size mallocs → Fronted b size mallocs
     told f true got room e =
-        let s : field_size f.tag ≡ size = cc in
+        let s : header_bytes + length_of f.tag ≡ size = cc in
         let m : before + mallocs_of f ≡ mallocs = cc in
         record {
-          told = sym s ∙ ap field_size (sym (fetched b f got).tag);
-          fits = rw (← s) (fetched b f got).fits;
+          told = sym s ∙ ap (λ n. header_bytes + length_of n) (sym (got_passed b f got).tag);
+          fits = rw (← s) (got_passed b f got).fits;
           some = omega (arith, s);
           room = rw (← m) (leb-true (before + mallocs_of f) log_mallocs room);
         }
@@ -171,13 +171,13 @@ lies (suc k) before (x ∷ b) n h = by (front_of before (read_field (x ∷ b))) 
         let there : drop (size + o) (x ∷ b) ≡ drop o rest = sym (drop-drop o size (x ∷ b)) in
         rw (sym f.told, there) (omega (arith, later mallocs rest n (le_of_suc-le-suc h), length-drop size (x ∷ b), f.fits))
 
-pub record Inside (log : List ℕ) (at size : ℕ) : Type 0 where
+pub record Within (log : List ℕ) (at size : ℕ) : Type 0 where
   pub fits : at + size ≤ length log
   pub small : length log ≤ log_bytes
 
-pub inside : (log : List ℕ) (n at size : ℕ) → shown_in log n ≡ Part at size → Inside log at size
+pub within : (log : List ℕ) (n at size : ℕ) → shown_in log n ≡ Part at size → Within log at size
 unfolding shown_in
-inside log n at size e =
+within log n at size e =
     let whole = Part (offset_of n log) (size_in (drop (offset_of n log) log)) in
     let p = all-passed (λ r. Refused r 0) whole
     (test (leb (length log) log_bytes) LogTooLong ∷ test (ltb n (length (fields_read log))) FieldNotReached ∷ [])

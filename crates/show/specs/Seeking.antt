@@ -3,8 +3,8 @@
 use Rattle.std.specs.Prelude.{ℕ, ◌+◌, cond, List, leb, ltb, drop, length}
 use Rattle.fields.specs.Read.{Got, Reading, Refused as Unread}
 use Rattle.fields.specs.declared.Refusal.TheVariants.{FieldNotReached}
-use Rattle.fields.specs.Limits.{log_mallocs}
-use Rattle.fields.specs.Rows.{field_size}
+use Rattle.fields.specs.Limits.{header_bytes, log_mallocs}
+use Rattle.fields.specs.Rows.{length_of}
 use Rattle.rules.specs.declared.Shown.{Shown}
 use Rattle.rules.specs.declared.Shown.TheVariants.{Part, Refused}
 use Rattle.rules.specs.Log.{offset_of, parse}
@@ -14,7 +14,7 @@ use Rattle.show.specs.declared.seek.Front.TheVariants.{Whole, Stop}
 
 -- what was read at a place, so many mallocs having come before: 11
 abbrev pub front_of : ℕ → Reading → Front
-front_of before (Got f) = cond (leb (before + mallocs_of f) log_mallocs) (Whole (field_size f.tag) (before + mallocs_of f)) Stop
+front_of before (Got f) = cond (leb (before + mallocs_of f) log_mallocs) (Whole (header_bytes + length_of f.tag) (before + mallocs_of f)) Stop
 front_of before (Unread r) = Stop
 
 -- the answer, where at most k fields are left from a place on, so many mallocs came before it, and n fields come before the one sought

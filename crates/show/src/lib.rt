@@ -3,7 +3,7 @@
 mod seek;
 
 ghost use Rattle.std.specs.Prelude.{◌≡◌};
-ghost use Rattle.rules.specs.Showing.{Finds, Shows, part_in, shown_in};
+ghost use Rattle.rules.specs.Showing.{chosen, part_in, shown_in};
 
 use fields::{Log, Refusal};
 use rules::{Choice, Shown};
@@ -29,7 +29,7 @@ fn part_in(log: &[u8], number: u32) -> &[u8]
 
 // Where the field's bytes begin in the chosen log and how many they are, or why there are none.
 pub fn find_field<'a>(recorded: &'a [u8], replay: &'a [u8], choice: Choice, number: u32) -> Shown
-    ensures { Finds recorded.now replay.now choice number result }
+    ensures { result ≡ shown_in (chosen choice recorded.now replay.now) number }
 {
     match choice {
         Choice::Recording => answer_in(recorded, number),
@@ -39,7 +39,7 @@ pub fn find_field<'a>(recorded: &'a [u8], replay: &'a [u8], choice: Choice, numb
 
 // The field's own bytes, a part of the chosen log; an empty part where `find_field` refuses.
 pub fn show_field<'a>(recorded: &'a [u8], replay: &'a [u8], choice: Choice, number: u32) -> &'a [u8]
-    ensures { Shows recorded.now replay.now choice number result.now }
+    ensures { result.now ≡ part_in (chosen choice recorded.now replay.now) number }
 {
     match choice {
         Choice::Recording => part_in(recorded, number),

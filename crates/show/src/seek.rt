@@ -5,8 +5,8 @@ ghost use Rattle.fields.specs.Read.{read_field};
 ghost use Rattle.rules.specs.Showing.{mallocs_of};
 ghost use Rattle.show.specs.Seeking.{front_of, seek_from};
 
-use acts::act_of;
 use fields::{Field, Log, Read, Refusal, read_field, value_length};
+use judge::act_of;
 use rules::{Change, Shown};
 
 // What stands at a place: a field that passes the reading checks, by its size and the mallocs up to it and with it; or none.

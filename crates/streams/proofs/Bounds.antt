@@ -1,4 +1,5 @@
 -- A call moves no more bytes than it was lent, and none where it stops.
+-- Assumes nothing.
 use Prim.Native.Nat.{ℕ, zero, suc, ◌+◌, ◌-◌, ◌≤◌, zero-le}
 use borrow.Rule.Slice.PartMut.{mid_of, mid_len}
 use lib.ListN.{length}

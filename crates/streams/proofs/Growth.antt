@@ -1,5 +1,6 @@
 -- One more call, of which the part of the buffer xs from a place on was lent: what it brought stands after what was there, and a
 -- stop is what its answer says.
+-- Assumes nothing.
 use Prim.Native.Nat.{ℕ, ◌+◌, ◌≤◌}
 use borrow.Rule.Slice.PartMut.{put_mid, post_of, take_put}
 use lib.Dec.{T}

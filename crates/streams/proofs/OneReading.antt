@@ -1,4 +1,5 @@
 -- What the system answered determines what was read: two results that the contract of `read_into` allows, by the same calls, are equal.
+-- Assumes nothing.
 use Prim.Native.Nat.{ℕ, ◌≤◌, ◌<◌}
 use lib.Dec.{T}
 use lib.ListN.{length, take}

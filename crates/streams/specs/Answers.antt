@@ -1,4 +1,5 @@
 -- What one answer of POSIX's read or write means: a number, and errno after the call.
+-- Assumes nothing.
 use Rattle.std.specs.Prelude.{ℕ, zero, suc, Bool, true, false, cond, List, [], ◌∷◌, ◌≡◌, eqb, ℤ, pos, negsuc}
 use Rattle.streams.specs.declared.answers.Answer.{Answer}
 use Rattle.streams.specs.declared.answers.Answer.TheVariants.{Moved, Nothing, Interrupted, Failed}

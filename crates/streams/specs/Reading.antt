@@ -1,4 +1,5 @@
 -- What reading into a buffer gives, by what the system answered to each call.
+-- Assumes nothing.
 use Rattle.std.specs.Prelude.{ℕ, ◌<◌, Bool, true, false, List, [], ◌∷◌, ◌++◌, ◌⊎◌, ◌≡◌, ℤ, length, take}
 use Rattle.streams.specs.Answers.{AllGoOn, answer_of, calls, moved_of}
 use Rattle.streams.specs.declared.answers.Answer.{Answer}

@@ -7,5 +7,5 @@ mod writing;
 pub use reading::{Filled, Stop, is_full, read_into};
 pub use writing::write_whole;
 
-// More calls than any input or output takes: after this many calls it has failed.
+// More calls than any input or output takes. One that takes so many has failed.
 const CALLS: u64 = 0xffff_ffff_ffff_ffff;

@@ -2,7 +2,6 @@
 // crate judge. Their contracts are the core's, with the tally read and left behind the reference.
 ghost use Rattle.judge.specs.Judges.{Judges};
 ghost use Rattle.judge.specs.Replays.{Replays};
-ghost use Rattle.rules.specs.Judging.{lent};
 
 use rules::{Tally, Verdict};
 
@@ -15,7 +14,7 @@ pub fn judge(
     status: &mut [u8],
     tally: &mut Tally,
 ) -> Verdict
-    ensures { Judges log.now (lent pointers.old selectors.old variables.old numbers.old status.old tally.old) result (lent pointers.new selectors.new variables.new numbers.new status.new tally.new) }
+    ensures { Judges log.now pointers.old selectors.old variables.old numbers.old status.old tally.old result tally.new pointers.new selectors.new variables.new numbers.new status.new }
 {
     let j = judge::judge_log(log, pointers, selectors, variables, numbers, status, *tally);
     *tally = j.tally;
@@ -32,7 +31,7 @@ pub fn replay(
     status: &mut [u8],
     tally: &mut Tally,
 ) -> Verdict
-    ensures { Replays log.now out.old (lent pointers.old selectors.old variables.old numbers.old status.old tally.old) result out.new (lent pointers.new selectors.new variables.new numbers.new status.new tally.new) }
+    ensures { Replays log.now out.old pointers.old selectors.old variables.old numbers.old status.old tally.old result tally.new out.new pointers.new selectors.new variables.new numbers.new status.new }
 {
     let j = judge::replay_log(
         log, out, pointers, selectors, variables, numbers, status, *tally,

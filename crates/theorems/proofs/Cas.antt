@@ -17,7 +17,7 @@ use Rattle.rules.specs.Check.{check, check_by, holds, same_as_wanted}
 use Rattle.rules.specs.Effect.{count_field, effect, free, give}
 use Rattle.rules.specs.Run.{Raced, run}
 use Rattle.theorems.specs.Paper.{Assert, Copy, same_pointers}
-use Rattle.theorems.specs.Beside.{Means, both, says_copy, says_same}
+use Rattle.theorems.specs.Beside.{Takes, both, says_copy, says_same}
 
 module _ (t p q r : ℕ) where
   -- assert p = q; assert p ≠ q
@@ -36,9 +36,9 @@ module _ (t p q r : ℕ) where
   unfolding command_of
   done-acts s = refl
 
-  pub done-means : Means (act_of (cas_done t p q r)) (Assert (same_pointers p q) ∷ Copy p r ∷ [])
+  pub done-takes : Takes (act_of (cas_done t p q r)) (Assert (same_pointers p q) ∷ Copy p r ∷ [])
   unfolding command_of
-  done-means = both says_same says_copy refl
+  done-takes = both says_same says_copy refl
 
   -- the copy after the assertion passes, and leaves what done leaves, with one field more
   pub copy-passes : (s : State) → check (act_of (copy_of t p r)) (effect (act_of asserted) s) ≡ Go

@@ -1,14 +1,14 @@
 -- Lemma 2 of source 004 along a run: each command that passes keeps the sizes of what is lent, and the invariant of Sound.
 -- Named is what the reading checks give: every variable below 80, every selector below 2, every cell below 1,024. Assumes nothing.
 use Prim.Native.Nat.{◌*◌, ◌+◌, ◌/◌, ◌<◌, ℕ}
-use mathlib.Core.Path.{◌≡◌, subst, sym}
+use mathlib.Core.Path.{◌∙◌, ◌≡◌, refl, subst, sym}
 use mathlib.Core.Bool.{false, true}
-use mathlib.Core.List.{[], ◌∷◌}
+use mathlib.Core.List.{List, [], ◌∷◌, map}
 use native.Mathlib.Omega.{arith}
 use borrow.Author.Tests.{ltb-false, ltb-true}
-use lib.Dec.{ltb}
-use lib.ListN.{get_or-eq_default}
-use Rattle.fields.proofs.Passing.{every_cut}
+use lib.Dec.{eqb, ltb}
+use lib.ListN.{get_or-eq_default, length, length-map, length-replicate, length-set}
+use Rattle.fields.proofs.Passing.{either, every_cut}
 use Rattle.rules.specs.declared.PExp.{PExp}
 use Rattle.rules.specs.declared.PExp.TheVariants.{PointerVariable, SelectorOf}
 use Rattle.rules.specs.declared.DExp.{DExp}
@@ -23,18 +23,18 @@ use Rattle.rules.specs.declared.Act.{Act}
 use Rattle.rules.specs.declared.Place.{Place}
 use Rattle.rules.specs.declared.Place.TheVariants.{PointerWord, SelectorWord}
 use Rattle.rules.specs.declared.DataPlace.{DataPlace}
+use Rattle.rules.specs.declared.DataPlace.TheVariants.{CellNumber, VariableNumber}
 use Rattle.rules.specs.declared.Answer.TheVariants.{Go}
-use Rattle.rules.specs.Words.{cell_of, is_unset, unset}
-use Rattle.rules.specs.State.{State, freed, fresh, live, never_used, pointer, status_of, store, word, write}
+use Rattle.rules.specs.Words.{after_free, cell_of, invalidated, is_unset, unset}
+use Rattle.rules.specs.State.{State, freed, fresh, live, never_used, numbers_with, pointer, pointers_with, selectors_with, status_of, store, variables_with, word, write}
 use Rattle.rules.specs.Acts.{data_place, frees, place, pointer_through, source, target, value}
 use Rattle.rules.specs.Check.{check, points, valid}
 use Rattle.rules.specs.Effect.{apply, count_field, effect, free, give}
 use Rattle.rules.specs.Matching.{Owned}
 use Rattle.rules.proofs.Checks.{Clear}
-use Rattle.rules.proofs.Sizes.{Sized, sized_effect, sized_fresh}
 use Rattle.theorems.proofs.Basics.{get_d_same, split}
 use Rattle.theorems.proofs.Words.{cell_small}
-use Rattle.theorems.proofs.States.{Within, status_set, word-free, word-give, word_write}
+use Rattle.theorems.proofs.States.{Sized, Within, length-change_own, status_set, word-free, word-give, word_write}
 use Rattle.theorems.proofs.Passed.{Passed, Set, looked, passed, reached}
 use Rattle.theorems.proofs.Sound.{Good, Sound, good_unset, sound_free, sound_give, sound_write}
 
@@ -72,6 +72,22 @@ pub record Inv (s : State) : Type 0 where
   pub sized : Sized s
   pub sound : Sound (word s) (status_of s)
 
+length-pointers_with : (x : Place) (w : ℕ) (l : List ℕ) → length (pointers_with x w l) ≡ length l
+length-pointers_with (PointerWord i) w l = length-set l i w
+length-pointers_with (SelectorWord j) w l = refl
+
+length-selectors_with : (x : Place) (w : ℕ) (l : List ℕ) → length (selectors_with x w l) ≡ length l
+length-selectors_with (PointerWord i) w l = refl
+length-selectors_with (SelectorWord j) w l = length-set l j w
+
+length-variables_with : (x : DataPlace) (w : ℕ) (l : List ℕ) → length (variables_with x w l) ≡ length l
+length-variables_with (VariableNumber i) w l = length-set l i w
+length-variables_with (CellNumber j) w l = refl
+
+length-numbers_with : (x : DataPlace) (w : ℕ) (l : List ℕ) → length (numbers_with x w l) ≡ length l
+length-numbers_with (VariableNumber i) w l = refl
+length-numbers_with (CellNumber j) w l = length-set l j w
+
 -- the cell of a variable that is valid and set is live
 pub live-cell : (s : State) (p : ℕ) → Inv s → Set s p → status_of s (cell_of (pointer s p)) ≡ live
 live-cell s p v t = (v.sound.good (PointerWord p)).live t.valid t.pointing
@@ -95,29 +111,70 @@ found s (SelectorOf p b) v n e f =
     record { within = omega (arith, n.1); owned = rw h l }
 
 -- ---- each effect
-module _ (s : State) (v : Inv s) where
-  abbrev Keeps : State → Type 0
-  Keeps t = Sound (word t) (status_of t)
+keep_write : (s : State) (x : Place) (w : ℕ) → Inv s → Found s x → Good (status_of s) w → Inv (write x w s)
+unfolding write
+keep_write s x w v f g = record {
+  sized = record {
+    pointers = length-pointers_with x w s.pointers ∙ v.sized.pointers;
+    selectors = length-selectors_with x w s.selectors ∙ v.sized.selectors;
+    variables = v.sized.variables;
+    numbers = v.sized.numbers;
+    status = v.sized.status;
+  };
+  sound = sound_write x w v.sound f.owned g (λ u. word_write s x u w v.sized f.within);
+}
 
-  keep-write : (x : Place) (w : ℕ) → Found s x → Good (status_of s) w → Keeps (write x w s)
-  unfolding write
-  keep-write x w f g = sound_write x w v.sound f.owned g (λ u. word_write s x u w v.sized f.within)
+keep_store : (s : State) (x : DataPlace) (n : ℕ) → Inv s → Inv (store x n s)
+unfolding store
+keep_store s x n v = record {
+  sized = record {
+    pointers = v.sized.pointers;
+    selectors = v.sized.selectors;
+    variables = length-variables_with x n s.variables ∙ v.sized.variables;
+    numbers = length-numbers_with x n s.numbers ∙ v.sized.numbers;
+    status = v.sized.status;
+  };
+  sound = v.sound;
+}
 
-  keep-store : (x : DataPlace) (n : ℕ) → Keeps (store x n s)
-  unfolding store
-  keep-store x n = v.sound
-
-  keep-give : (p c d : ℕ) → p < 80 → c < 1024 → Keeps (give p c d s)
-  unfolding give
-  keep-give p c d hp hc = sound_give p c v.sound (cell_small c hc) (λ u. word-give s p c d u v.sized hp hc) (status_set s c live v.sized hc)
-
-  keep-free : (c : ℕ) → c < 1024 → Keeps (free c s)
-  unfolding free
-  keep-free c h = sound_free c v.sound (λ u. word-free s c u v.sized h) (status_set s c freed v.sized h)
-
-keep_count_field : (s : State) → Sound (word s) (status_of s) → Sound (word (count_field s)) (status_of (count_field s))
+keep_count_field : (s : State) → Inv s → Inv (count_field s)
 unfolding count_field
-keep_count_field s v = v
+keep_count_field s v = record {
+  sized = record {
+    pointers = v.sized.pointers;
+    selectors = v.sized.selectors;
+    variables = v.sized.variables;
+    numbers = v.sized.numbers;
+    status = v.sized.status;
+  };
+  sound = v.sound;
+}
+
+keep_give : (s : State) (p c d : ℕ) → Inv s → p < 80 → c < 1024 → Inv (give p c d s)
+unfolding give
+keep_give s p c d v hp hc = record {
+  sized = record {
+    pointers = length-set s.pointers p c ∙ v.sized.pointers;
+    selectors = either (λ (l : List ℕ). length l ≡ 2048) (eqb (status_of s c) never_used) (length-change_own (λ w. unset) c s.selectors ∙ v.sized.selectors) v.sized.selectors;
+    variables = v.sized.variables;
+    numbers = either (λ (l : List ℕ). length l ≡ 1024) (eqb (status_of s c) never_used) (length-set s.numbers c d ∙ v.sized.numbers) v.sized.numbers;
+    status = length-set s.status c live ∙ v.sized.status;
+  };
+  sound = sound_give p c v.sound (cell_small c hc) (λ u. word-give s p c d u v.sized hp hc) (status_set s c live v.sized hc);
+}
+
+keep_free : (s : State) (c : ℕ) → Inv s → c < 1024 → Inv (free c s)
+unfolding free
+keep_free s c v h = record {
+  sized = record {
+    pointers = length-map s.pointers (after_free c) ∙ v.sized.pointers;
+    selectors = length-change_own invalidated c (map (after_free c) s.selectors) ∙ length-map s.selectors (after_free c) ∙ v.sized.selectors;
+    variables = v.sized.variables;
+    numbers = v.sized.numbers;
+    status = length-set s.status c freed ∙ v.sized.status;
+  };
+  sound = sound_free c v.sound (λ u. word-free s c u v.sized h) (status_set s c freed v.sized h);
+}
 
 -- ---- each command: what is freed must be valid; of what is gone through, only the target need be valid and set
 pub record Aimed (s : State) (c : Change) : Type 0 where
@@ -138,21 +195,18 @@ aim a s p =
 pub freed-live : (s : State) (p : ℕ) → Inv s → Clear (valid s) (p ∷ []) → is_unset (pointer s p) ≡ false → status_of s (cell_of (pointer s p)) ≡ live
 freed-live s p v r t = live-cell s p v (record { valid = r.0; pointing = t })
 
-keep_change : (c : Change) (s : State) → Inv s → Named c → Aimed s c → Sound (word (apply c s)) (status_of (apply c s))
-keep_change Stay s v n r = v.sound
-keep_change (Allocate p c d) s v n r = keep-give s v p c.0 d n.0 n.1
+keep_change : (c : Change) (s : State) → Inv s → Named c → Aimed s c → Inv (apply c s)
+keep_change Stay s v n r = v
+keep_change (Allocate p c d) s v n r = keep_give s p c.0 d v n.0 n.1
 keep_change (Release p) s v n r = split (is_unset (pointer s p))
-    (λ t. rw t v.sound)
-    (λ t. rw t (keep-free s v (cell_of (pointer s p)) (live_below s (cell_of (pointer s p)) v.sized (freed-live s p v r.frees t))))
-keep_change (Move x y) s v n r = keep-write s v (place s x) (word s (place s y)) (found s x v n.0 r.valid r.pointing) (v.sound.good (place s y))
-keep_change (Put x w) s v n r = keep-store s v (data_place s x) (value s w)
+    (λ t. rw t v)
+    (λ t. rw t (keep_free s (cell_of (pointer s p)) v (live_below s (cell_of (pointer s p)) v.sized (freed-live s p v r.frees t))))
+keep_change (Move x y) s v n r = keep_write s (place s x) (word s (place s y)) v (found s x v n.0 r.valid r.pointing) (v.sound.good (place s y))
+keep_change (Put x w) s v n r = keep_store s (data_place s x) (value s w) v
 
 -- Lemma 2
 pub keep : (a : Act) (s : State) → Inv s → Named a.change → check a s ≡ Go → Inv (effect a s)
-keep a s v n e = record {
-  sized = sized_effect a s v.sized;
-  sound = keep_count_field (apply a.change s) (keep_change a.change s v n (aim a s (passed a s e)));
-}
+keep a s v n e = keep_count_field (apply a.change s) (keep_change a.change s v n (aim a s (passed a s e)))
 
 -- ---- the start
 pub word-fresh : (x : Place) → word fresh x ≡ unset
@@ -163,6 +217,16 @@ word-fresh (SelectorWord j) = get_d_same 2048 j unset
 pub status_fresh : (c : ℕ) → status_of fresh c ≡ never_used
 unfolding fresh
 status_fresh c = get_d_same 1024 c never_used
+
+sized_fresh : Sized fresh
+unfolding fresh
+sized_fresh = record {
+  pointers = length-replicate {A = ℕ} 80 unset;
+  selectors = length-replicate {A = ℕ} 2048 unset;
+  variables = length-replicate {A = ℕ} 80 0;
+  numbers = length-replicate {A = ℕ} 1024 0;
+  status = length-replicate {A = ℕ} 1024 never_used;
+}
 
 pub inv_fresh : Inv fresh
 inv_fresh = record {

@@ -10,10 +10,10 @@ use lib.Seq.{drop_at}
 use Rattle.fields.specs.declared.Field.{Field}
 use Rattle.fields.specs.Every.{AreBytes, Every}
 use Rattle.fields.specs.Bytes.{pack, to_bytes}
-use Rattle.fields.specs.Rows.{field_size, length_of, row_of, widths_of}
+use Rattle.fields.specs.Rows.{length_of, row_of, widths_of}
 use Rattle.fields.specs.Numbers.{numbers_of}
 use Rattle.fields.specs.Read.{Got, Reading, Refused as Unread, read_field}
-use Rattle.fields.specs.Write.{field_bytes, bytes_by}
+use Rattle.fields.specs.Write.{field_bytes}
 use Rattle.fields.proofs.Passing.{every_join}
 use Rattle.fields.proofs.Writing.{length-field_bytes}
 use Rattle.fields.proofs.Packing.{bytes_drop}
@@ -25,19 +25,15 @@ use Rattle.rules.specs.State.{State, fresh}
 use Rattle.rules.specs.Commands.{act_of}
 use Rattle.rules.specs.Check.{check}
 use Rattle.rules.specs.Effect.{effect}
-use Rattle.rules.specs.Run.{Accepted, End, Outcome, next, run, run_to, whole}
+use Rattle.rules.specs.Run.{Accepted, End, Outcome, next, run, run_to, unread, whole}
 use Rattle.rules.specs.Log.{onward, parse, run_bytes}
-use Rattle.rules.specs.Replay.{Matching, bytes_of, copy_act, copy_field, next_cell, rematched, replay, replay_bytes, start}
+use Rattle.rules.specs.Replay.{bytes_of, copy_act, copy_field, next_cell, replay, replay_bytes, start}
 use Rattle.rules.specs.Matching.{Along, Match}
-use Rattle.rules.proofs.Tallies.{accepted_whole, next-accepted}
-use Rattle.theorems.specs.Renewed.{NewCells, Renewed}
 use Rattle.theorems.proofs.Basics.{every_map}
 use Rattle.theorems.proofs.Kept.{NamedAct}
 use Rattle.theorems.proofs.Ranges.{Bounded, Small, bounded_effect, bounded_fresh}
 use Rattle.theorems.proofs.Tables.{act_copy, readable_copy, readable_named, readable_small}
-use Rattle.theorems.proofs.Replayed.{All, Replayed, replayed}
-use Rattle.theorems.proofs.Renewed.{one_renewal, renewed_distinct, replay_renews}
-use Rattle.theorems.proofs.Unmarked.{new_cells}
+use Rattle.theorems.proofs.Replayed.{All, Replayed, next-accepted, replayed}
 
 parse_some : (n : ℕ) (b : List ℕ) → 0 < length b → parse (suc n) b ≡ onward (read_field b) b (λ rest. parse n rest)
 parse_some n [] h = absurd (not-suc-le-zero h)
@@ -51,7 +47,7 @@ parse_bytes zero (f ∷ fs) a h = absurd (not-suc-le-zero h)
 parse_bytes (suc n) (f ∷ fs) a h =
     let size = length-field_bytes f in
     parse_some n (field_bytes f ++ bytes_of fs) (rw (length-append (field_bytes f) (bytes_of fs)) (omega arith))
-    ∙ rw (there f (bytes_of fs) a.0, drop_at (field_bytes f) (bytes_of fs) (field_size f.tag) size, parse_bytes n fs a.1 (le_of_suc-le-suc h)) refl
+    ∙ rw (there f (bytes_of fs) a.0, drop_at (field_bytes f) (bytes_of fs) (3 + length_of f.tag) size, parse_bytes n fs a.1 (le_of_suc-le-suc h)) refl
 
 -- ---- what was parsed: readable fields, at most n; their bytes begin the log, and are all of it where the log was read to its end
 pub record Taken (n : ℕ) (log : List ℕ) : Type 0 where
@@ -64,8 +60,8 @@ pub record Taken (n : ℕ) (log : List ℕ) : Type 0 where
 taken_more : (n : ℕ) (b : ℕ) (bs : List ℕ) (x : Reading) → AreBytes (b ∷ bs) → read_field (b ∷ bs) ≡ x → ((rest : List ℕ) → AreBytes rest → Taken n rest) → Taken (suc n) (b ∷ bs)
 taken_more n b bs (Got f) y e w =
     let q = back (b ∷ bs) f y e in
-    let left = drop (field_size f.tag) (b ∷ bs) in
-    let v = w left (bytes_drop (field_size f.tag) (b ∷ bs) y) in
+    let left = drop (3 + length_of f.tag) (b ∷ bs) in
+    let v = w left (bytes_drop (3 + length_of f.tag) (b ∷ bs) y) in
     record {
       readable = rw e (q.0, v.readable);
       room = rw e (omega (arith, v.room));
@@ -90,11 +86,13 @@ taken (suc n) (b ∷ bs) y = taken_more n b bs (read_field (b ∷ bs)) y refl (�
 pub taken_named : (n : ℕ) (log : List ℕ) → AreBytes log → All NamedAct (parse n log).fields
 taken_named n log y = every_map Readable (λ f. NamedAct (act_of f)) (parse n log).fields readable_named (taken n log y).readable
 
--- the bytes of a log that is accepted are those of its fields
-whole_bytes : (n : ℕ) (log : List ℕ) (x y l : ℕ) → AreBytes log → (run_bytes n log fresh).verdict ≡ Accepted x y l → bytes_of (parse n log).fields ≡ log
-whole_bytes n log x y l b e =
-    let w = taken n log b in
-    rw (w.all (accepted_whole (parse n log).end (parse n log).fields fresh x y l e), append-nil (bytes_of (parse n log).fields)) at w.bytes
+-- an accepted run ended where the log ends
+pub ended : (end : End) (fs : List Field) (s : State) (n k l : ℕ) → (run_to end fs s).verdict ≡ Accepted n k l → end ≡ whole
+ended whole fs s n k l e = refl
+ended (unread r) [] s n k l e = absurd (let q : ◌≡◌ {A = ℕ} 0 1 = cc in omega arith)
+ended (unread r) (f ∷ fs) s n k l e =
+    let g : check (act_of f) s ≡ Go = next-accepted (check (act_of f) s) f s (run_to (unread r) fs (effect (act_of f) s)) n k l e in
+    ended (unread r) fs (effect (act_of f) s) n k l (rw g at e)
 
 -- ---- the fields of a replay are readable, and take as many bytes as the log's
 pub record Copied (fs gs : List Field) : Type 0 where
@@ -102,17 +100,17 @@ pub record Copied (fs gs : List Field) : Type 0 where
   pub count : length gs ≡ length fs
   pub bytes : length (bytes_of gs) ≡ length (bytes_of fs)
 
-pub copied : (fs : List Field) (s : State) (m : Matching) (n k l : ℕ) → Every Readable fs → Bounded s → All NamedAct (replay s m fs) → (run fs s).verdict ≡ Accepted n k l → Copied fs (replay s m fs)
-copied [] s m n k l a b w e = record { readable = tt; count = refl; bytes = refl }
-copied (f ∷ fs) s m n k l a b w e =
-    let g : Field = copy_field s m (next_cell s) f in
+pub copied : (fs : List Field) (s : State) (n k l : ℕ) → Every Readable fs → Bounded s → All NamedAct (replay s fs) → (run fs s).verdict ≡ Accepted n k l → Copied fs (replay s fs)
+copied [] s n k l a b w e = record { readable = tt; count = refl; bytes = refl }
+copied (f ∷ fs) s n k l a b w e =
+    let g : Field = copy_field s (next_cell s) f in
     let here : check (act_of f) s ≡ Go = next-accepted (check (act_of f) s) f s (run fs (effect (act_of f) s)) n k l e in
-    let named : NamedAct (copy_act s m (next_cell s) (act_of f)) = rw (act_copy s m (next_cell s) f) at w.0 in
-    let q = copied fs (effect (act_of f) s) (rematched f g m) n k l a.1 (bounded_effect (act_of f) s (readable_small f a.0) b) w.1 (rw here at e) in
+    let named : NamedAct (copy_act s (next_cell s) (act_of f)) = rw (act_copy s (next_cell s) f) at w.0 in
+    let q = copied fs (effect (act_of f) s) n k l a.1 (bounded_effect (act_of f) s (readable_small f a.0) b) w.1 (rw here at e) in
     record {
-      readable = (readable_copy s m (next_cell s) f a.0 b named.1, q.readable);
+      readable = (readable_copy s (next_cell s) f a.0 b named.1, q.readable);
       count = ap suc q.count;
-      bytes = omega (arith, length-append (field_bytes g) (bytes_of (replay (effect (act_of f) s) (rematched f g m) fs)), length-append (field_bytes f) (bytes_of fs), length-field_bytes g, length-field_bytes f, q.bytes);
+      bytes = omega (arith, length-append (field_bytes g) (bytes_of (replay (effect (act_of f) s) fs)), length-append (field_bytes f) (bytes_of fs), length-field_bytes g, length-field_bytes f, q.bytes);
     }
 
 -- ---- what is written is bytes
@@ -126,7 +124,7 @@ bytes_pack (w ∷ ws) [] = every_join (λ x. x < 256) (to_bytes w 0) (pack ws []
 bytes_pack (w ∷ ws) (n ∷ ns) = every_join (λ x. x < 256) (to_bytes w n) (pack ws ns) (bytes_to_bytes w n) (bytes_pack ws ns)
 
 bytes_field : (f : Field) → AreBytes (field_bytes f)
-unfolding bytes_by
+unfolding field_bytes
 bytes_field f = bytes_pack (1 ∷ 2 ∷ widths_of (row_of f.tag)) (f.tag ∷ length_of f.tag ∷ numbers_of f)
 
 bytes_fields : (fs : List Field) → AreBytes (bytes_of fs)
@@ -155,54 +153,41 @@ pub record Fields (n : ℕ) (log : List ℕ) (fields mallocs live : ℕ) : Type 
   pub bytes : bytes_of (parse n log).fields ≡ log
   pub accepted : (run (parse n log).fields fresh).verdict ≡ Accepted fields mallocs live
   pub replays : Replayed (parse n log).fields fields mallocs live
-  pub copies : Copied (parse n log).fields (replay fresh start (parse n log).fields)
-  pub again : parse n (replay_bytes n log) ≡ record { fields = replay fresh start (parse n log).fields; end = whole }
+  pub copies : Copied (parse n log).fields (replay fresh (parse n log).fields)
+  pub again : parse n (replay_bytes n log) ≡ record { fields = replay fresh (parse n log).fields; end = whole }
 
 pub fields_of : (n : ℕ) (log : List ℕ) (x y l : ℕ) → AreBytes log → (run_bytes n log fresh).verdict ≡ Accepted x y l → Fields n log x y l
 unfolding replay_bytes
 fields_of n log x y l b e =
     let fs : List Field = (parse n log).fields in
-    let z : (parse n log).end ≡ whole = accepted_whole (parse n log).end fs fresh x y l e in
+    let z : (parse n log).end ≡ whole = ended (parse n log).end fs fresh x y l e in
     let w = taken n log b in
     let r : (run fs fresh).verdict ≡ Accepted x y l = rw z at e in
     let d = replayed fs x y l (taken_named n log b) r in
-    let c = copied fs fresh start x y l w.readable bounded_fresh d.named r in
+    let c = copied fs fresh x y l w.readable bounded_fresh d.named r in
     record {
       readable = w.readable;
-      bytes = whole_bytes n log x y l b e;
+      bytes = rw (w.all z, append-nil (bytes_of fs)) at w.bytes;
       accepted = r;
       replays = d;
       copies = c;
-      again = parse_bytes n (replay fresh start fs) c.readable (omega (arith, c.count, w.room));
+      again = parse_bytes n (replay fresh fs) c.readable (omega (arith, c.count, w.room));
     }
 
--- ---- demand 3 over the bytes of a log of at most n fields, and of a copy of it
-pub record ReplayOf (n : ℕ) (log copy : List ℕ) (fields mallocs live : ℕ) : Type 0 where
-  pub accepted : (run_bytes n copy fresh).verdict ≡ Accepted fields mallocs live
-  pub size : length copy ≡ length log
-  pub bytes : AreBytes copy
-  -- the same fields, but the k-th malloc gives out cell k, never used before, with the data that the recorded cell then held
-  pub renewed : Renewed (parse n log).fields (parse n copy).fields
-  pub new : NewCells (parse n copy).fields
-  pub matches : Along Match (parse n log).fields (parse n copy).fields fresh fresh start
+-- ---- demand 3 over the bytes of a log of at most n fields
+pub record ReplayOf (n : ℕ) (log : List ℕ) (fields mallocs live : ℕ) : Type 0 where
+  pub accepted : (run_bytes n (replay_bytes n log) fresh).verdict ≡ Accepted fields mallocs live
+  pub size : length (replay_bytes n log) ≡ length log
+  pub bytes : AreBytes (replay_bytes n log)
+  pub matches : Along Match (parse n log).fields (parse n (replay_bytes n log)).fields fresh fresh start
 
-pub replay_of : (n : ℕ) (log : List ℕ) (x y l : ℕ) → AreBytes log → (run_bytes n log fresh).verdict ≡ Accepted x y l → ReplayOf n log (replay_bytes n log) x y l
+pub replay_of : (n : ℕ) (log : List ℕ) (x y l : ℕ) → AreBytes log → (run_bytes n log fresh).verdict ≡ Accepted x y l → ReplayOf n log x y l
 unfolding replay_bytes
 replay_of n log x y l b e =
     let p = fields_of n log x y l b e in
-    let R = replay_renews (parse n log).fields x y l p.accepted in
-    let copy : List Field = replay fresh start (parse n log).fields in
     record {
       accepted = rw p.again p.replays.accepts;
       size = p.copies.bytes ∙ ap length p.bytes;
-      bytes = bytes_fields (replay fresh start (parse n log).fields);
-      renewed = rw p.again R;
-      new = rw p.again (new_cells copy x y l p.replays.named (renewed_distinct (parse n log).fields copy R) p.replays.accepts);
+      bytes = bytes_fields (replay fresh (parse n log).fields);
       matches = rw p.again p.replays.matches;
     }
-
-pub only_replay_of : (n : ℕ) (log copy : List ℕ) (x y l x' y' l' : ℕ) → AreBytes log → (run_bytes n log fresh).verdict ≡ Accepted x y l → ReplayOf n log copy x' y' l' → copy ≡ replay_bytes n log
-only_replay_of n log copy x y l x' y' l' b e R =
-    let S = replay_of n log x y l b e in
-    let same : (parse n copy).fields ≡ (parse n (replay_bytes n log)).fields = one_renewal (parse n log).fields (parse n copy).fields (parse n (replay_bytes n log)).fields R.renewed S.renewed in
-    sym (whole_bytes n copy x' y' l' R.bytes R.accepted) ∙ ap bytes_of same ∙ whole_bytes n (replay_bytes n log) x y l S.bytes S.accepted

@@ -11,24 +11,25 @@ use lib.Dec.{eqb}
 use Rattle.fields.specs.declared.RecordedCell.{RecordedCell}
 use Rattle.fields.specs.declared.Refusal.{Refusal}
 use Rattle.fields.specs.declared.Refusal.TheVariants.{TooManyMallocs}
+use Rattle.fields.specs.Order.{in_order}
 use Rattle.rules.specs.declared.Change.{Change}
 use Rattle.rules.specs.declared.Act.{Act}
+use Rattle.rules.specs.declared.Answer.{Answer}
 use Rattle.rules.specs.declared.Answer.TheVariants.{Go, Race, Refuse}
 use Rattle.rules.specs.Words.{is_unset}
 use Rattle.rules.specs.State.{State, freed, live, number_at, pointer, status_of}
 use Rattle.rules.specs.Acts.{gives, through, touched}
 use Rattle.rules.specs.Check.{check, each, holds, points, room_for, vacant, valid}
 use Rattle.rules.proofs.Checks.{Clear, clear_each, pass_by}
-use Rattle.theorems.specs.Paper.{Asgn-load, Asgn-read, Asgn-store, Asgn-write, Asrt, Assert, Com, Computation, Cond, Heap, InUse, Malloc1, Malloc2, Rule, SomeNotValid, Update, cell, data_of, defined, freed_in, heap_of, passes, pointer_var, then, valid_in}
-use Rattle.theorems.specs.Beside.{Agrees, Means, NoSeg, RaceIn, Returns, Says, Steps, assertion, both, change, says_constant, says_copy, says_free, says_load, says_malloc, says_read, says_store, says_sum, says_write, valid_of}
+use Rattle.theorems.specs.Paper.{Asgn-load, Asgn-read, Asgn-store, Asgn-write, Asrt, Assert, Com, Computation, Cond, Heap, InUse, Malloc1, Malloc2, Rule, Update, cell, data_of, defined, freed_in, heap_of, passes, pointer_var, then, valid_in}
+use Rattle.theorems.specs.Beside.{NoSeg, RaceIn, Returns, Says, Shows, Steps, Takes, assertion, both, change, says_constant, says_copy, says_free, says_load, says_malloc, says_read, says_store, says_sum, says_write}
 use Rattle.theorems.proofs.Basics.{split}
-use Rattle.theorems.proofs.Passed.{room_left}
 use Rattle.theorems.proofs.PaperReading.{allocated_live, no_address, same_address}
-use Rattle.theorems.proofs.PaperRaces.{pointer-race-is-race, some-invalid-race}
-use Rattle.theorems.proofs.PaperSteps.{guard-passes, agrees-assert}
+use Rattle.theorems.proofs.PaperRaces.{SomeInvalid, check-parts, others, pointer-race-is-race, races, some-invalid-race}
+use Rattle.theorems.proofs.PaperSteps.{guard-passes, shows-assert}
 
 -- no variable of a list is invalid
-all_valid : (s : State) (l : List ℕ) → (SomeNotValid (valid_of s) l → ⊥) → Clear (valid s) l
+all_valid : (s : State) (l : List ℕ) → (SomeInvalid s l → ⊥) → Clear (valid s) l
 all_valid s [] n = tt
 all_valid s (p ∷ l) n = split (valid s p)
     (λ t. (t, all_valid s l (λ i. n (inr i))))
@@ -43,7 +44,7 @@ record Steady (a : Act) (s : State) : Type 0 where
 asserted : {h : Heap} {freed : ℕ → Bool} {k : Cond} {up : List Update} → Rule h freed (Assert k) up → passes true h k ≡ true
 asserted (Asrt e) = e
 
-module _ (τ : Computation) (s : State) (H : Agrees s τ) where
+module _ (τ : Computation) (s : State) (H : Shows s τ) where
   points_on : (p a : ℕ) → (heap_of τ).pval (pointer_var p) ≡ defined (cell a) → points s p ≡ true
   points_on p a e = split (is_unset (pointer s p))
       (λ t. absurd (no_address (rw t at (sym (H.pointers (pointer_var p)) ∙ e))))
@@ -69,33 +70,43 @@ module _ (τ : Computation) (s : State) (H : Agrees s τ) where
   change-steady m c up (says_constant {x} {n}) rule named = (tt, tt)
   change-steady m c up (says_sum {x} {y} {z}) rule named = (tt, tt)
 
-module _ (thread : ℕ) (τ : Computation) (s : State) (H : Agrees s τ) where
-  steady : (a : Act) (cs : List Com) (σ : Computation) → Means a cs → NoSeg s a.guard → Steps thread (gives a.change) τ cs σ → Steady a s
+module _ (thread : ℕ) (τ : Computation) (s : State) (H : Shows s τ) where
+  steady : (a : Act) (cs : List Com) (σ : Computation) → Takes a cs → NoSeg s a.guard → Steps thread (gives a.change) τ cs σ → Steady a s
   steady a cs σ (change {m} {c} w) set st = let q = change-steady τ s H m c st.0 w st.1 st.2 in record { pointing = q.0; unlive = q.1; holding = refl }
   steady a cs σ (assertion {g} {k} w) set st = record { pointing = tt; unlive = tt; holding = sym (guard-passes τ s H g k w set) ∙ asserted st.1 }
   steady a cs σ (both {g} {k} {m} {c} w u none) set st =
       let ρ : Computation = then τ (record { thread = thread; command = Assert k; up = st.0 }) in
       let later = st.3 in
-      let q = change-steady ρ s (agrees-assert τ s H thread k st.0 st.1) m c later.0 u later.1 later.2 in
+      let q = change-steady ρ s (shows-assert τ s H thread k st.0 st.1) m c later.0 u later.1 later.2 in
       record { pointing = q.0; unlive = q.1; holding = sym (guard-passes τ s H g k w set) ∙ asserted st.1 }
 
-  pub allowed-passes : (a : Act) (cs : List Com) (σ : Computation) → Means a cs → NoSeg s a.guard → Steps thread (gives a.change) τ cs σ
+  pub allowed-passes : (a : Act) (cs : List Com) (σ : Computation) → Takes a cs → NoSeg s a.guard → Steps thread (gives a.change) τ cs σ
       → (RaceIn (valid_in τ) cs → ⊥) → Clear (room_for s) (gives a.change) → check a s ≡ Go
-  allowed-passes a cs σ means set steps no_race_lem room =
-      let st = steady a cs σ means set steps in
+  allowed-passes a cs σ takes set steps no_race_lem room =
+      let st = steady a cs σ takes set steps in
       pass_by (each (valid s) Race (touched a)) a s (record {
         room = room;
-        raceless = clear_each (valid s) Race (touched a) (all_valid s (touched a) (λ i. no_race_lem (some-invalid-race τ s H a cs means i)));
+        raceless = clear_each (valid s) Race (touched a) (all_valid s (touched a) (λ i. no_race_lem (some-invalid-race τ s H a cs takes i)));
         pointing = st.pointing;
         unlive = st.unlive;
         holding = st.holding;
       })
 
-  pub refused-no-step : (a : Act) (cs : List Com) (r : Refusal) → Means a cs → NoSeg s a.guard → check a s ≡ Refuse r → (r ≡ TooManyMallocs → ⊥)
+  -- a refusal other than 11 says that there was room
+  room_left : (a : Act) (r : Refusal) → (r ≡ TooManyMallocs → ⊥) → check a s ≡ Refuse r → Clear (room_for s) (gives a.change)
+  room_left a r n e = room (in_order (λ answer. answer) (in_order (λ answer. answer) Go (others a s)) (races a s)) (gives a.change) (sym (check-parts a s) ∙ e)
+    where
+      room : (done : Answer) (l : List RecordedCell) → in_order (λ answer. answer) done (each (room_for s) (λ c. Refuse TooManyMallocs) l) ≡ Refuse r → Clear (room_for s) l
+      room done [] q = tt
+      room done (c ∷ l) q = split (room_for s c)
+          (λ t. (t, room done l (rw t at q)))
+          (λ t. let same : Refuse TooManyMallocs ≡ Refuse r = rw t at q in absurd (n (cc)))
+
+  pub refused-no-step : (a : Act) (cs : List Com) (r : Refusal) → Takes a cs → NoSeg s a.guard → check a s ≡ Refuse r → (r ≡ TooManyMallocs → ⊥)
       → (σ : Computation) → Steps thread (gives a.change) τ cs σ → ⊥
-  refused-no-step a cs r means set e n σ steps =
-      let no_race_lem : RaceIn (valid_in τ) cs → ⊥ = λ race. refused-not-raced (pointer-race-is-race τ s H a cs means race) in
-      let passes : Refuse r ≡ Go = sym e ∙ allowed-passes a cs σ means set steps no_race_lem (room_left a s (Refuse r) (λ q. n (let same : TooManyMallocs ≡ r = cc in sym same)) e) in
+  refused-no-step a cs r takes set e n σ steps =
+      let no_race_lem : RaceIn (valid_in τ) cs → ⊥ = λ race. refused-not-raced (pointer-race-is-race τ s H a cs takes race) in
+      let passes : Refuse r ≡ Go = sym e ∙ allowed-passes a cs σ takes set steps no_race_lem (room_left a r n e) in
       let z : ◌≡◌ {A = ℕ} 0 1 = cc in
       omega arith
     where

@@ -1,4 +1,4 @@
--- Source 004 beside the rules: every field that was read means commands of the paper, one line for each tag.
+-- Source 004 beside the rules: every field that was read takes commands of the paper, one line for each tag.
 -- Assumes nothing.
 use Prim.Native.Nat.{◌<◌, suc, zero, ℕ}
 use mathlib.Core.Path.{◌≡◌, refl}
@@ -15,12 +15,12 @@ use Rattle.fields.proofs.Tags.{tag_below}
 use Rattle.rules.specs.declared.Act.{Act}
 use Rattle.rules.specs.Commands.{act_of, command_of, commands, no_command}
 use Rattle.theorems.specs.Paper.{Assert, Com, Compute, Copy, Free, Load, Malloc, ReadData, Selector, Store, WriteData, index, negated, next₀, next₁, same_data, same_pointers}
-use Rattle.theorems.specs.Beside.{Means, assertion, both, change, says_apart, says_constant, says_copy, says_equal, says_free, says_load, says_malloc, says_read, says_same, says_store, says_sum, says_unequal, says_write, wrapping_sum}
+use Rattle.theorems.specs.Beside.{Takes, assertion, both, change, says_apart, says_constant, says_copy, says_equal, says_free, says_load, says_malloc, says_read, says_same, says_store, says_sum, says_unequal, says_write, wrapping_sum}
 use Rattle.theorems.proofs.Basics.{clash}
 use Rattle.theorems.proofs.Tables.{Facts, RowByRow, ◌▹◌, facts}
 
 abbrev Sayable : Row → (Field → Act) → Type 0
-Sayable r command = (f : Field) → Facts r f → (cs : List Com) × Means (command f) cs
+Sayable r command = (f : Field) → Facts r f → (cs : List Com) × Takes (command f) cs
 
 selector_of : (n : ℕ) → n < 2 → (i : Selector) × (index i ≡ n)
 selector_of zero h = (next₀, refl)
@@ -68,8 +68,8 @@ at_known P (r ∷ rs) [] i h all = absurd all
 at_known P (r ∷ rs) (c ∷ cs) zero h all = all.0
 at_known P (r ∷ rs) (c ∷ cs) (suc i) h all = at_known P rs cs i (le_of_suc-le-suc h) all.1
 
-pub readable_means : (f : Field) → Readable f → (cs : List Com) × Means (act_of f) cs
-readable_means f R = by f.tag R.tag f (facts (row_of f.tag) f R.right)
+pub readable_takes : (f : Field) → Readable f → (cs : List Com) × Takes (act_of f) cs
+readable_takes f R = by f.tag R.tag f (facts (row_of f.tag) f R.right)
   where
     by : (tag : ℕ) → is_tag tag ≡ true → Sayable (row_of tag) (command_of tag)
     by zero known = unfold is_tag in (clash known refl)

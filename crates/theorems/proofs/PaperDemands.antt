@@ -1,6 +1,6 @@
 -- Source 004 beside the rules, over the bytes of a log: the main theorems. Whatever its verdict, a log is a computation of the
 -- memory-managed semantics without a pointer race up to its stop, Lemma 2 holds of it, and a race is Definition 2's. Assumes nothing.
-use Prim.Native.Nat.{◌*◌, ◌+◌, ◌<◌, ◌≤◌, ℕ}
+use Prim.Native.Nat.{◌*◌, ◌+◌, ℕ}
 use mathlib.Core.Path.{◌∙◌, ◌≡◌, ap, refl, subst, sym}
 use mathlib.Core.Bool.{false}
 use mathlib.Core.Logic.{inl, inr}
@@ -8,9 +8,6 @@ use mathlib.Core.List.{List, [], ◌++◌, ◌∷◌}
 use native.Mathlib.Omega.{arith}
 use borrow.Author.Tests.{eqb-true}
 use Rattle.fields.specs.declared.Field.{Field}
-use Rattle.fields.specs.declared.Refusal.{Refusal}
-use Rattle.fields.specs.declared.Refusal.TheVariants.{TooManyMallocs}
-use Rattle.fields.specs.Refusals.{number_of}
 use Rattle.fields.specs.Limits.{log_fields}
 use Rattle.fields.specs.Every.{AreBytes, Every}
 use Rattle.fields.proofs.Passing.{every_cut}
@@ -22,22 +19,19 @@ use Rattle.rules.specs.State.{State, freed, fresh, live, status_of, word}
 use Rattle.rules.specs.Commands.{act_of}
 use Rattle.rules.specs.Check.{check}
 use Rattle.rules.specs.Effect.{effect}
-use Rattle.rules.specs.Acts.{gives}
-use Rattle.rules.specs.Run.{Accepted, End, Ending, Outcome, Raced, Refused, end_verdict, next, run_to, unread, whole}
+use Rattle.rules.specs.Run.{Accepted, End, Outcome, Raced, next, run_to, unread, whole}
 use Rattle.rules.specs.Log.{parse, run_bytes}
-use Rattle.rules.proofs.Tallies.{next-accepted}
-use Rattle.theorems.specs.Paper.{Com, Computation, Lemma2, PExp, cell, defined, index, initial, next_of, valid_in}
-use Rattle.theorems.specs.Beside.{Agrees, Computed, FirstNotValid, Means, NoSeg, RaceIn, Steps, contained_in, is_there, passing, place_of, pval_of}
+use Rattle.theorems.specs.Paper.{Com, Computation, Lemma2, NotValid, PExp, cell, defined, index, initial, next_of, valid_in}
+use Rattle.theorems.specs.Beside.{Computed, RaceIn, Shows, Takes, is_there, passing, place_of, pval_of}
 use Rattle.theorems.proofs.Basics.{clash, split}
 use Rattle.theorems.proofs.Kept.{Inv}
-use Rattle.theorems.proofs.Reading.{ByReading, parse_end}
+use Rattle.theorems.proofs.Replayed.{next-accepted}
 use Rattle.theorems.proofs.Logs.{taken}
 use Rattle.theorems.proofs.Demands.{lemma2}
 use Rattle.theorems.proofs.PaperReading.{half, no_address, no_value, same_address}
-use Rattle.theorems.proofs.PaperRaces.{pointer-race-is-race, race-is-pointer-race, race-names-first}
-use Rattle.theorems.proofs.PaperCommands.{readable_means}
+use Rattle.theorems.proofs.PaperRaces.{pointer-race-is-race, race-is-pointer-race, race-names-invalid}
+use Rattle.theorems.proofs.PaperCommands.{readable_takes}
 use Rattle.theorems.proofs.PaperRun.{computed, decides}
-use Rattle.theorems.proofs.PaperAllowed.{refused-no-step}
 
 -- ---- Lemma 2 in the paper's words
 pointed_at : (s : State) (e : PExp) (a : ℕ) → pval_of s e ≡ defined (cell a) → (is_unset (word s (place_of e)) ≡ false) × (cell_of (word s (place_of e)) ≡ a)
@@ -47,7 +41,7 @@ pointed_at s e a q = split (is_there s e)
     (λ u. (u, same_address (rw (t, u) at q))))
     (λ t. absurd (no_value (rw t at q)))
 
-lemma2_of : (τ : Computation) (s : State) → Agrees s τ → Inv s → Lemma2 τ
+lemma2_of : (τ : Computation) (s : State) → Shows s τ → Inv s → Lemma2 τ
 lemma2_of τ s H I a f (inl q) =
     let status : status_of s a ≡ freed = eqb-true (status_of s a) freed (sym (H.frees a) ∙ f) in
     clash (sym (H.marks (next_of a q.0)) ∙ q.1) (I.sound.freed (2 * a + index q.0) (rw (half a q.0) status))
@@ -66,44 +60,27 @@ accepted_all end (f ∷ fs) s n k l e =
     let here : check (act_of f) s ≡ Go = next-accepted (check (act_of f) s) f s (run_to end fs (effect (act_of f) s)) n k l e in
     rw here (ap (λ (l : List Field). f ∷ l) (accepted_all end fs (effect (act_of f) s) n k l (rw here at e)))
 
--- a verdict that the end of the fields does not give is given by a field
-stops : (end : End) (fs : List Field) (s : State) (v : Ending) → ((t : State) → end_verdict end t ≡ v → ⊥) → (run_to end fs s).verdict ≡ v → (f : Field) × (rest : List Field) × (fs ≡ passing fs s ++ (f ∷ rest))
-stops end [] s v n e = absurd (n s e)
-stops end (f ∷ fs) s v n e = first-stop (check (act_of f) s) refl (λ q. stops end fs (effect (act_of f) s) v n q)
+race-stops : (end : End) (fs : List Field) (s : State) (n t v : ℕ) → (run_to end fs s).verdict ≡ Raced n t v → (f : Field) × (rest : List Field) × (fs ≡ passing fs s ++ (f ∷ rest))
+race-stops whole [] s n t v e = absurd (let z : ◌≡◌ {A = ℕ} 0 1 = cc in omega arith)
+race-stops (unread r) [] s n t v e = absurd (let z : ◌≡◌ {A = ℕ} 0 1 = cc in omega arith)
+race-stops end (f ∷ fs) s n t v e = first-stop (check (act_of f) s) refl (λ q. race-stops end fs (effect (act_of f) s) n t v q)
   where
     first-stop : (x : Answer) → check (act_of f) s ≡ x
-        → ((run_to end fs (effect (act_of f) s)).verdict ≡ v → (g : Field) × (rest : List Field) × (fs ≡ passing fs (effect (act_of f) s) ++ (g ∷ rest)))
+        → ((run_to end fs (effect (act_of f) s)).verdict ≡ Raced n t v → (g : Field) × (rest : List Field) × (fs ≡ passing fs (effect (act_of f) s) ++ (g ∷ rest)))
         → (g : Field) × (rest : List Field) × (f ∷ fs ≡ passing (f ∷ fs) s ++ (g ∷ rest))
     first-stop Go h later = let r = later (rw h at e) in rw h (r.0, r.1, ap (λ (l : List Field). f ∷ l) r.2)
     first-stop (Race w) h later = rw h (f, fs, refl)
     first-stop (Refuse r) h later = rw h (f, fs, refl)
 
-end_no_race : (end : End) (s : State) (n t v : ℕ) → end_verdict end s ≡ Raced n t v → ⊥
-end_no_race whole s n t v e = let z : ◌≡◌ {A = ℕ} 0 1 = cc in omega arith
-end_no_race (unread r) s n t v e = let z : ◌≡◌ {A = ℕ} 0 1 = cc in omega arith
+-- an outcome that is no race, to speak of the field alone
+no_race : Outcome
+no_race = record { verdict = Accepted 0 0 0; state = fresh }
 
-end_reading : (end : End) (s : State) (r : Refusal) (n : ℕ) → ((q : Refusal) → end ≡ unread q → ByReading q) → 11 < number_of r → end_verdict end s ≡ Refused r n → ⊥
-end_reading whole s r n reading h e = let z : ◌≡◌ {A = ℕ} 0 1 = cc in omega arith
-end_reading (unread q) s r n reading h e = let same : q ≡ r = cc in let few : number_of r ≤ 11 = subst ByReading same (reading q refl) in omega arith
-
--- an outcome that is no stop, to speak of the field alone
-no_stop : Outcome
-no_stop = record { verdict = Accepted 0 0 0; state = fresh }
-
-next_raced : (x : Answer) (f : Field) (s : State) (n t v : ℕ) → (next x s.fields f s no_stop).verdict ≡ Raced n t v → (x ≡ Race v) × (s.fields ≡ n) × (f.thread ≡ t)
-unfolding no_stop
+next_raced : (x : Answer) (f : Field) (s : State) (n t v : ℕ) → (next x s.fields f s no_race).verdict ≡ Raced n t v → (x ≡ Race v) × (s.fields ≡ n) × (f.thread ≡ t)
+unfolding no_race
 next_raced Go f s n t v e = absurd (let z : ◌≡◌ {A = ℕ} 0 1 = cc in omega arith)
 next_raced (Race w) f s n t v e = (cc, cc, cc)
 next_raced (Refuse r) f s n t v e = absurd (let z : ◌≡◌ {A = ℕ} 0 1 = cc in omega arith)
-
-next-refused : (x : Answer) (f : Field) (s : State) (r : Refusal) (n : ℕ) → (next x s.fields f s no_stop).verdict ≡ Refused r n → (x ≡ Refuse r) × (s.fields ≡ n)
-unfolding no_stop
-next-refused Go f s r n e = absurd (let z : ◌≡◌ {A = ℕ} 0 1 = cc in omega arith)
-next-refused (Race w) f s r n e = absurd (let z : ◌≡◌ {A = ℕ} 0 1 = cc in omega arith)
-next-refused (Refuse q) f s r n e = let same : q ≡ r = cc in (ap Refuse same, cc)
-
-stop_readable : (l : List Field) (f : Field) (rest : List Field) → Every Readable (l ++ (f ∷ rest)) → Readable f
-stop_readable l f rest a = (every_cut Readable l (f ∷ rest) a).1.0
 
 -- ---- over the bytes of a log
 module _ (log : List ℕ) (b : AreBytes log) where
@@ -119,10 +96,10 @@ module _ (log : List ℕ) (b : AreBytes log) where
   accepted-passing n k l e = accepted_all (parse log_fields log).end fields fresh n k l e
 
   pub paper-lemma2 : Lemma2 computation.computation
-  paper-lemma2 = lemma2_of computation.computation (run_bytes log_fields log fresh).state computation.agrees (lemma2 log b)
+  paper-lemma2 = lemma2_of computation.computation (run_bytes log_fields log fresh).state computation.shows (lemma2 log b)
 
-  -- the field after those that pass: its number and its thread, its commands, and that one of them raises a pointer race. The variable is
-  -- the first that is not valid of those of which Definition 2 speaks, p before q
+  -- the field after those that pass: its number and its thread, its commands, that one of them raises a pointer race, and a variable
+  -- that is not valid
   pub record Raising (number thread variable : ℕ) : Type 0 where
     pub field : Field
     pub rest : List Field
@@ -130,20 +107,20 @@ module _ (log : List ℕ) (b : AreBytes log) where
     pub done : (run_bytes log_fields log fresh).state.fields ≡ number
     pub by : field.thread ≡ thread
     pub commands : List Com
-    pub means : Means (act_of field) commands
+    pub takes : Takes (act_of field) commands
     pub race : RaceIn (valid_in computation.computation) commands
-    pub named : FirstNotValid (valid_in computation.computation) (contained_in commands) variable
+    pub named : NotValid (valid_in computation.computation) variable
 
   -- a log that is stopped by a race raises a pointer race there, by Definition 2
   pub raced-raises : (n t v : ℕ) → (run_bytes log_fields log fresh).verdict ≡ Raced n t v → Raising n t v
   raced-raises n t v e =
       let end = (parse log_fields log).end in
       let left = (run_bytes log_fields log fresh).state in
-      let stop = stops end fields fresh (Raced n t v) (λ s. end_no_race end s n t v) e in
+      let stop = race-stops end fields fresh n t v e in
       let f : Field = stop.0 in
-      let why = next_raced (check (act_of f) left) f left n t v (sym (decides end fields fresh f stop.1 no_stop stop.2) ∙ e) in
-      let R : Readable f = stop_readable (passing fields fresh) f stop.1 (subst (Every Readable) stop.2 (taken log_fields log b).readable) in
-      let c = readable_means f R in
+      let why = next_raced (check (act_of f) left) f left n t v (sym (decides end fields fresh f stop.1 no_race stop.2) ∙ e) in
+      let R : Readable f = stop-readable (passing fields fresh) f stop.1 (subst (Every Readable) stop.2 (taken log_fields log b).readable) in
+      let c = readable_takes f R in
       record {
         field = f;
         rest = stop.1;
@@ -151,46 +128,18 @@ module _ (log : List ℕ) (b : AreBytes log) where
         done = why.1;
         by = why.2;
         commands = c.0;
-        means = c.1;
-        race = race-is-pointer-race computation.computation left computation.agrees (act_of f) c.0 c.1 v why.0;
-        named = race-names-first computation.computation left computation.agrees (act_of f) c.0 c.1 v why.0;
+        takes = c.1;
+        race = race-is-pointer-race computation.computation left computation.shows (act_of f) c.0 c.1 v why.0;
+        named = race-names-invalid computation.computation left computation.shows (act_of f) c.0 c.1 v why.0;
       }
+    where
+      stop-readable : (l : List Field) (f : Field) (rest : List Field) → Every Readable (l ++ (f ∷ rest)) → Readable f
+      stop-readable l f rest a = (every_cut Readable l (f ∷ rest) a).1.0
 
   -- and where the field after those that pass raises a pointer race, the log is stopped by a race, of that field's thread
-  pub raises-raced : (f : Field) (rest : List Field) (cs : List Com) → (parse log_fields log).fields ≡ passing (parse log_fields log).fields fresh ++ (f ∷ rest) → Means (act_of f) cs
+  pub raises-raced : (f : Field) (rest : List Field) (cs : List Com) → (parse log_fields log).fields ≡ passing (parse log_fields log).fields fresh ++ (f ∷ rest) → Takes (act_of f) cs
       → RaceIn (valid_in computation.computation) cs → (v : ℕ) × ((run_bytes log_fields log fresh).verdict ≡ Raced (run_bytes log_fields log fresh).state.fields f.thread v)
-  raises-raced f rest cs parts means race =
+  raises-raced f rest cs parts takes race =
       let left = (run_bytes log_fields log fresh).state in
-      let v = pointer-race-is-race computation.computation left computation.agrees (act_of f) cs means race in
-      (v.0, decides (parse log_fields log).end fields fresh f rest no_stop parts ∙ rw v.1 refl)
-
-  -- the field after those that pass: its number, its commands, and that they have no steps of the memory-managed semantics, where no
-  -- pointer that it compares is unset (there the paper passes = and ≠, and order 4 does not)
-  pub record NoSteps (number : ℕ) : Type 0 where
-    pub field : Field
-    pub rest : List Field
-    pub parts : (parse log_fields log).fields ≡ passing (parse log_fields log).fields fresh ++ (field ∷ rest)
-    pub done : (run_bytes log_fields log fresh).state.fields ≡ number
-    pub commands : List Com
-    pub means : Means (act_of field) commands
-    pub none : NoSeg (run_bytes log_fields log fresh).state (act_of field).guard → (σ : Computation) → Steps field.thread (gives (act_of field).change) computation.computation commands σ → ⊥
-
-  -- a log that is refused with 12, 13 or 14 stops at such a field. (3 to 10 are met in reading, and 11 is a limit that the paper lacks)
-  pub refused-no-steps : (r : Refusal) (n : ℕ) → 11 < number_of r → (run_bytes log_fields log fresh).verdict ≡ Refused r n → NoSteps n
-  refused-no-steps r n deed e =
-      let end = (parse log_fields log).end in
-      let left = (run_bytes log_fields log fresh).state in
-      let stop = stops end fields fresh (Refused r n) (λ s. end_reading end s r n (parse_end log_fields log) deed) e in
-      let f : Field = stop.0 in
-      let why = next-refused (check (act_of f) left) f left r n (sym (decides end fields fresh f stop.1 no_stop stop.2) ∙ e) in
-      let c = readable_means f (stop_readable (passing fields fresh) f stop.1 (subst (Every Readable) stop.2 (taken log_fields log b).readable)) in
-      let room : r ≡ TooManyMallocs → ⊥ = λ q. let eleven : number_of r ≡ 11 = ap number_of q in omega arith in
-      record {
-        field = f;
-        rest = stop.1;
-        parts = stop.2;
-        done = why.1;
-        commands = c.0;
-        means = c.1;
-        none = λ set σ steps. refused-no-step f.thread computation.computation left computation.agrees (act_of f) c.0 r c.1 set why.0 room σ steps;
-      }
+      let v = pointer-race-is-race computation.computation left computation.shows (act_of f) cs takes race in
+      (v.0, decides (parse log_fields log).end fields fresh f rest no_race parts ∙ rw v.1 refl)

@@ -2,7 +2,7 @@
 -- Assumes nothing.
 use Prim.Native.Nat.{◌*◌, ◌+◌, ◌/◌, ◌<◌, ℕ}
 use mathlib.Core.Path.{◌∙◌, ◌≡◌, ap, refl, sym}
-use mathlib.Core.Bool.{Bool, ◌&&◌, ◌||◌, and-eq-true_iff, and-false, and_true, cond, false, not, or-false, or-true, true}
+use mathlib.Core.Bool.{Bool, ◌&&◌, ◌||◌, and-eq-true_iff, and-false, and-true, cond, false, not, or-false, or-true, true}
 use mathlib.Core.Logic.{inl, inr}
 use native.Mathlib.Omega.{arith}
 use borrow.Author.Tests.{eq-eqb, eqb-false, eqb-true, ne_eqb, not-false}
@@ -20,8 +20,7 @@ use Rattle.theorems.specs.Paper.{Adr, DExp, Heap, InUse, PExp, Partial, Selector
 use Rattle.theorems.specs.Beside.{adr_of, dval_of, freed_of, is_allocated, is_there, place_of, pval_of, valid_of}
 use Rattle.theorems.proofs.Basics.{clash, eqb_self, eqb_turn, get_d_set, split}
 use Rattle.theorems.proofs.Words.{after_free-unset, cell_freed_at, cell_small, cell-unset, freed_at, unset_freed_at, unset-unset, valid_below, valid-invalidated}
-use Rattle.rules.proofs.Sizes.{Sized}
-use Rattle.theorems.proofs.States.{Within, cleared_at, eq_place, status_free, status_give, word-free, word-give, word_write}
+use Rattle.theorems.proofs.States.{Sized, Within, cleared_at, eq_place, status_set, word-free, word-give, word_write}
 use Rattle.theorems.proofs.Sound.{owned}
 use Rattle.theorems.proofs.Effects.{cell-give, starting_data_new}
 
@@ -182,9 +181,13 @@ module _ (s : State) (c : ℕ) (T : Traced (word s) (status_of s)) (hc : c < 102
 
 -- ---- after a free of the live cell c
 module _ (s : State) (c : ℕ) (z : Sized s) (T : Traced (word s) (status_of s)) (l : Live s c) (hc : c < 1024) where
+  free-status : (k : ℕ) → status_of (free c s) k ≡ cond (eqb c k) freed (status_of s k)
+  unfolding free
+  free-status k = status_set s c freed z hc k
+
   free-there : (e : PExp) → is_there (free c s) e ≡ is_there s e
   free-there (pointer_var p) = refl
-  free-there (next_of a i) = rw (status_free s c z hc a) (split (eqb c a)
+  free-there (next_of a i) = rw (free-status a) (split (eqb c a)
       (λ t.
       let there : is_allocated s a ≡ true = allocated_live s a (rw (eqb-true c a t) at l) in
       rw (t, there) refl)
@@ -204,7 +207,7 @@ module _ (s : State) (c : ℕ) (z : Sized s) (T : Traced (word s) (status_of s))
   unfolding after_free
   valid-afterFree w = split (eqb c (cell_of w))
       (λ t. rw (t, valid-invalidated w) (sym (and-false (is_valid w))))
-      (λ t. rw t (sym (and_true (is_valid w))))
+      (λ t. rw t (sym (and-true (is_valid w))))
 
   pub mark-free : (e : PExp) → valid_of (free c s) e ≡ valid_of s e && not (points_to (pval_of s e) c || is_next_of c e)
   mark-free (pointer_var p) = rw (points_to_lem s c T hc (pointer_var p), word-free s c (PointerWord p) z hc) (valid-afterFree (pointer s p))
@@ -215,12 +218,16 @@ module _ (s : State) (c : ℕ) (z : Sized s) (T : Traced (word s) (status_of s))
       (λ t. rw (t, eqb_turn a c, t) (valid-afterFree (word s x))))
 
   pub freed-free : (a : ℕ) → freed_of (free c s) a ≡ freed_of s a || eqb c a
-  freed-free a = rw (status_free s c z hc a) (split (eqb c a)
+  freed-free a = rw (free-status a) (split (eqb c a)
       (λ t. rw (t, or-true (freed_of s a)) refl)
       (λ t. rw (t, or-false (freed_of s a)) refl))
 
 -- ---- after a malloc of cell c into p
 module _ (s : State) (p c d : ℕ) (z : Sized s) (hp : p < 80) (hc : c < 1024) where
+  give-status : (k : ℕ) → status_of (give p c d s) k ≡ cond (eqb c k) live (status_of s k)
+  unfolding give
+  give-status k = status_set s c live z hc k
+
   given-pointer : (q : ℕ) → pval_of (give p c d s) (pointer_var q) ≡ cond (eqb p q) (defined (cell c)) (pval_of s (pointer_var q))
   given-pointer q = rw (word-give s p c d (PointerWord q) z hp hc) (split (eqb p q)
       (λ t. rw t (ap (λ (b : Adr). defined b) (adr_cell c hc)))
@@ -228,19 +235,19 @@ module _ (s : State) (p c d : ℕ) (z : Sized s) (hp : p < 80) (hc : c < 1024) w
 
   -- (Malloc1): the cell was never used
   new-selector : (a : ℕ) (i : Selector) → status_of s c ≡ never_used → pval_of (give p c d s) (next_of a i) ≡ cond (eqb c a) (defined seg) (pval_of s (next_of a i))
-  new-selector a i new = rw (status_give s p c d z hc a, word-give s p c d (SelectorWord (2 * a + index i)) z hp hc, half a i, new) (split (eqb c a)
+  new-selector a i new = rw (give-status a, word-give s p c d (SelectorWord (2 * a + index i)) z hp hc, half a i, new) (split (eqb c a)
       (λ t. rw t (ap (λ (b : Adr). defined b) adr_unset))
       (λ t. rw t refl))
 
   pub pval-new : status_of s c ≡ never_used → (e : PExp)
       → pval_of (give p c d s) e ≡ cond (same_p_exp (next_of c next₁) e) (defined seg) (cond (same_p_exp (next_of c next₀) e) (defined seg) (cond (same_p_exp (pointer_var p) e) (defined (cell c)) (pval_of s e)))
   pval-new new (pointer_var q) = given-pointer q
-  pval-new new (next_of a next₀) = new-selector a next₀ new ∙ rw (and-false (eqb c a), and_true (eqb c a)) refl
-  pval-new new (next_of a next₁) = new-selector a next₁ new ∙ rw (and-false (eqb c a), and_true (eqb c a)) refl
+  pval-new new (next_of a next₀) = new-selector a next₀ new ∙ rw (and-false (eqb c a), and-true (eqb c a)) refl
+  pval-new new (next_of a next₁) = new-selector a next₁ new ∙ rw (and-false (eqb c a), and-true (eqb c a)) refl
 
   pub dval-new : status_of s c ≡ never_used → (e : DExp) → dval_of (give p c d s) e ≡ cond (same_d_exp (data_of c) e) (defined d) (dval_of s e)
   dval-new new (data_var x) = unfold give in refl
-  dval-new new (data_of a) = rw (status_give s p c d z hc a, cell-give s p c d a z hc, starting_data_new s (record { 0 = c }) d new) (split (eqb c a)
+  dval-new new (data_of a) = rw (give-status a, cell-give s p c d a z hc, starting_data_new s (record { 0 = c }) d new) (split (eqb c a)
       (λ t. rw t refl)
       (λ t. rw t refl))
 
@@ -250,14 +257,14 @@ module _ (s : State) (p c d : ℕ) (z : Sized s) (hp : p < 80) (hc : c < 1024) w
 
   pub pval-used : status_of s c ≡ freed → (e : PExp) → pval_of (give p c d s) e ≡ cond (same_p_exp (pointer_var p) e) (defined (cell c)) (pval_of s e)
   pval-used old (pointer_var q) = given-pointer q
-  pval-used old (next_of a i) = rw (status_give s p c d z hc a, word-give s p c d (SelectorWord (2 * a + index i)) z hp hc, old) (split (eqb c a)
+  pval-used old (next_of a i) = rw (give-status a, word-give s p c d (SelectorWord (2 * a + index i)) z hp hc, old) (split (eqb c a)
       (λ t. rw (t, was-allocated a old t) refl)
       (λ t. rw t refl))
 
   pub dval-used : status_of s c ≡ freed → (e : DExp) → dval_of (give p c d s) e ≡ dval_of s e
   unfolding starting_data
   dval-used old (data_var x) = unfold give in refl
-  dval-used old (data_of a) = rw (status_give s p c d z hc a, cell-give s p c d a z hc, old) (split (eqb c a)
+  dval-used old (data_of a) = rw (give-status a, cell-give s p c d a z hc, old) (split (eqb c a)
       (λ t. rw (t, was-allocated a old t, eqb-true c a t) refl)
       (λ t. rw t refl))
 
@@ -276,6 +283,6 @@ module _ (s : State) (p c d : ℕ) (z : Sized s) (hp : p < 80) (hc : c < 1024) w
       (λ t. rw t refl))
 
   pub freed-give : (a : ℕ) → freed_of (give p c d s) a ≡ freed_of s a && not (eqb c a)
-  freed-give a = rw (status_give s p c d z hc a) (split (eqb c a)
+  freed-give a = rw (give-status a) (split (eqb c a)
       (λ t. rw (t, and-false (freed_of s a)) refl)
-      (λ t. rw (t, and_true (freed_of s a)) refl))
+      (λ t. rw (t, and-true (freed_of s a)) refl))

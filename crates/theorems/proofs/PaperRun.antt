@@ -30,7 +30,7 @@ use Rattle.rules.specs.Run.{End, Outcome, next, run_to}
 use Rattle.rules.specs.Log.{parse, run_bytes}
 use Rattle.rules.proofs.Checks.{Clear}
 use Rattle.theorems.specs.Paper.{Asrt, Assert, Com, Computation, Cond, DExp, MemoryManaged, PExp, PointerRace, RaceFree, data_of, data_var, dval_at_first, heap_of, index, initial, next_of, passes, pointer_var, pval_at_first, then, valid_in}
-use Rattle.theorems.specs.Beside.{Agrees, Computed, Means, RaceIn, Says, Steps, assertion, both, change, dval_of, passing, place_of, pval_of, says_constant, says_copy, says_free, says_load, says_malloc, says_read, says_store, says_sum, says_write, valid_of, wrapping_sum}
+use Rattle.theorems.specs.Beside.{Computed, RaceIn, Says, Shows, Steps, Takes, assertion, both, change, dval_of, passing, place_of, pval_of, says_constant, says_copy, says_free, says_load, says_malloc, says_read, says_store, says_sum, says_write, valid_of, wrapping_sum}
 use Rattle.theorems.proofs.Basics.{clash, get_d_same, split}
 use Rattle.theorems.proofs.Words.{cell_small, unset-unset, valid_below}
 use Rattle.theorems.proofs.States.{status_set, word-free, word-give, word_write}
@@ -40,8 +40,8 @@ use Rattle.theorems.proofs.Tables.{readable_named}
 use Rattle.theorems.proofs.Logs.{taken}
 use Rattle.theorems.proofs.PaperReading.{Traced, traced_free, traced_give, traced_write}
 use Rattle.theorems.proofs.PaperRaces.{passed-no-race}
-use Rattle.theorems.proofs.PaperSteps.{Returning, guard_passed, agrees-assert, step-compute, step-copy, step-free, step-load, step-malloc, step-read, step-store, step-write}
-use Rattle.theorems.proofs.PaperCommands.{readable_means}
+use Rattle.theorems.proofs.PaperSteps.{Returning, guard_passed, shows-assert, step-compute, step-copy, step-free, step-load, step-malloc, step-read, step-store, step-write}
+use Rattle.theorems.proofs.PaperCommands.{readable_takes}
 
 -- ---- no selector of a never-used cell is written, and no word holds a never-used cell
 module _ (s : State) (I : Inv s) (T : Traced (word s) (status_of s)) where
@@ -69,9 +69,9 @@ module _ (s : State) (I : Inv s) (T : Traced (word s) (status_of s)) where
   traced-step a n g = let l = looked a s g in traced-apply a.change n l.frees l.goes g.pointing
 
 -- ---- one command
-agrees_count : (τ : Computation) (s : State) → Agrees s τ → Agrees (count_field s) τ
+shows_count : (τ : Computation) (s : State) → Shows s τ → Shows (count_field s) τ
 unfolding count_field
-agrees_count τ s H = record {
+shows_count τ s H = record {
   pointers = λ e. H.pointers e ∙ same-pointers e;
   numbers = λ e. H.numbers e ∙ same-data e;
   marks = λ e. H.marks e ∙ same-marks e;
@@ -90,7 +90,7 @@ agrees_count τ s H = record {
     same-marks (pointer_var p) = refl
     same-marks (next_of a i) = refl
 
-module _ (τ : Computation) (s : State) (thread : ℕ) (H : Agrees s τ) (I : Inv s) (T : Traced (word s) (status_of s)) where
+module _ (τ : Computation) (s : State) (thread : ℕ) (H : Shows s τ) (I : Inv s) (T : Traced (word s) (status_of s)) where
   step-says : (m : Change) (c : Com) → Says m c → Named m
       → Clear (valid s) (frees m) → Clear (valid s) (through m) → Clear (points s) (through m) → Clear (vacant s) (gives m) → Returning τ thread (gives m) c (apply m s)
   step-says m c (says_malloc {p} {d} {c = r}) n f v u w = step-malloc τ s thread H I T p d r n.0 n.1 (eqb-false (status_of s r.0) live (not-true (eqb (status_of s r.0) live) w.0))
@@ -110,30 +110,30 @@ module _ (τ : Computation) (s : State) (thread : ℕ) (H : Agrees s τ) (I : In
 record Standing (s : State) (τ : Computation) : Type 0 where
   inv : Inv s
   traced : Traced (word s) (status_of s)
-  agrees : Agrees s τ
+  shows : Shows s τ
   managed : MemoryManaged τ
   race_free : RaceFree τ
 
--- where some commands lead: to a computation without a pointer race, and the state s agrees with it
-record Extended (thread : ℕ) (named : List RecordedCell) (τ : Computation) (cs : List Com) (s : State) : Type 0 where
+-- where some commands lead: to a computation without a pointer race, and the state s shows it
+record Onward (thread : ℕ) (named : List RecordedCell) (τ : Computation) (cs : List Com) (s : State) : Type 0 where
   to : Computation
   steps : Steps thread named τ cs to
   managed : MemoryManaged to
   race_free : RaceFree to
-  agrees : Agrees s to
+  shows : Shows s to
 
 module _ (s : State) (thread : ℕ) where
   change-on : (τ : Computation) → Standing s τ → (a : Act) (c : Com) → Says a.change c → Named a.change → Passed a s → (PointerRace (valid_in τ) c → ⊥)
-      → Extended thread (gives a.change) τ (c ∷ []) (apply a.change s)
+      → Onward thread (gives a.change) τ (c ∷ []) (apply a.change s)
   change-on τ S a c w n g no_Race =
       let l = looked a s g in
-      let st = step-says τ s thread S.agrees S.inv S.traced a.change c w n l.frees l.goes g.pointing g.unlive in
+      let st = step-says τ s thread S.shows S.inv S.traced a.change c w n l.frees l.goes g.pointing g.unlive in
       record {
         to = then τ (record { thread = thread; command = c; up = st.0.up });
         steps = (st.0.up, st.0.rule, st.1, refl);
         managed = (S.managed, st.0.rule);
         race_free = (S.race_free, no_Race);
-        agrees = st.0.agrees;
+        shows = st.0.shows;
       }
 
   assert-on : (τ : Computation) → Standing s τ → (k : Cond) → passes true (heap_of τ) k ≡ true → (PointerRace (valid_in τ) (Assert k) → ⊥)
@@ -141,49 +141,49 @@ module _ (s : State) (thread : ℕ) where
   assert-on τ S k e no_Race = record {
     inv = S.inv;
     traced = S.traced;
-    agrees = agrees-assert τ s S.agrees thread k [] (Asrt e);
+    shows = shows-assert τ s S.shows thread k [] (Asrt e);
     managed = (S.managed, Asrt e);
     race_free = (S.race_free, no_Race);
   }
 
-  means-on : (τ : Computation) → Standing s τ → (a : Act) (cs : List Com) → Means a cs → Named a.change → Passed a s → (RaceIn (valid_in τ) cs → ⊥)
-      → Extended thread (gives a.change) τ cs (apply a.change s)
-  means-on τ S a cs (change {m} {c} w) n g no_Race = change-on τ S a c w n g (λ r. no_Race (inl r))
-  means-on τ S a cs (assertion {g = q} {k} w) n g no_Race =
-      let e : passes true (heap_of τ) k ≡ true = guard_passed τ s S.agrees q k w g.holding in
+  takes-on : (τ : Computation) → Standing s τ → (a : Act) (cs : List Com) → Takes a cs → Named a.change → Passed a s → (RaceIn (valid_in τ) cs → ⊥)
+      → Onward thread (gives a.change) τ cs (apply a.change s)
+  takes-on τ S a cs (change {m} {c} w) n g no_Race = change-on τ S a c w n g (λ r. no_Race (inl r))
+  takes-on τ S a cs (assertion {g = q} {k} w) n g no_Race =
+      let e : passes true (heap_of τ) k ≡ true = guard_passed τ s S.shows q k w g.holding in
       let R = assert-on τ S k e (λ r. no_Race (inl r)) in
-      record { to = then τ (record { thread = thread; command = Assert k; up = [] }); steps = ([], Asrt e, tt, refl); managed = R.managed; race_free = R.race_free; agrees = R.agrees }
-  means-on τ S a cs (both {g = q} {k} {m} {c} w u none) n g no_Race =
-      let e : passes true (heap_of τ) k ≡ true = guard_passed τ s S.agrees q k w g.holding in
+      record { to = then τ (record { thread = thread; command = Assert k; up = [] }); steps = ([], Asrt e, tt, refl); managed = R.managed; race_free = R.race_free; shows = R.shows }
+  takes-on τ S a cs (both {g = q} {k} {m} {c} w u none) n g no_Race =
+      let e : passes true (heap_of τ) k ≡ true = guard_passed τ s S.shows q k w g.holding in
       let ρ : Computation = then τ (record { thread = thread; command = Assert k; up = [] }) in
       let o = change-on ρ (assert-on τ S k e (λ r. no_Race (inl r))) a c u n g (λ r. no_Race (inr (inl r))) in
-      record { to = o.to; steps = ([], Asrt e, rw none tt, o.steps); managed = o.managed; race_free = o.race_free; agrees = o.agrees }
+      record { to = o.to; steps = ([], Asrt e, rw none tt, o.steps); managed = o.managed; race_free = o.race_free; shows = o.shows }
 
--- ---- a run: the fields that pass are a computation without a pointer race, and the state that is left agrees with it
+-- ---- a run: the fields that pass are a computation without a pointer race, and the state that is left shows it
 stopped : (s : State) (τ : Computation) → Standing s τ → Computed τ [] s
-stopped s τ S = record { computation = τ; means = refl; managed = S.managed; race_free = S.race_free; agrees = S.agrees }
+stopped s τ S = record { computation = τ; takes = refl; managed = S.managed; race_free = S.race_free; shows = S.shows }
 
 -- one field, whatever the checks say of it
 module _ (f : Field) (s : State) (τ : Computation) (R : Readable f) (S : Standing s τ) (fs : List Field) (end : End)
     (later : (σ : Computation) → Standing (effect (act_of f) s) σ → Computed σ (passing fs (effect (act_of f) s)) (run_to end fs (effect (act_of f) s)).state) where
-  computed-on : check (act_of f) s ≡ Go → Computed τ (f ∷ passing fs (effect (act_of f) s)) (run_to end fs (effect (act_of f) s)).state
-  computed-on here =
+  goes_on_lem : check (act_of f) s ≡ Go → Computed τ (f ∷ passing fs (effect (act_of f) s)) (run_to end fs (effect (act_of f) s)).state
+  goes_on_lem here =
       let act : Act = act_of f in
       let named = readable_named f R in
-      let c = readable_means f R in
+      let c = readable_takes f R in
       let g = passed act s here in
-      let o = means-on s f.thread τ S act c.0 c.1 named.1 g (passed-no-race τ s S.agrees act c.0 c.1 here) in
+      let o = takes-on s f.thread τ S act c.0 c.1 named.1 g (passed-no-race τ s S.shows act c.0 c.1 here) in
       let q = later o.to (record {
         inv = keep act s S.inv named.1 here;
         traced = traced-step s S.inv S.traced act named.1 g;
-        agrees = agrees_count o.to (apply act.change s) o.agrees;
+        shows = shows_count o.to (apply act.change s) o.shows;
         managed = o.managed;
         race_free = o.race_free;
       }) in
-      record { computation = q.computation; means = (c.0, o.to, c.1, o.steps, q.means); managed = q.managed; race_free = q.race_free; agrees = q.agrees }
+      record { computation = q.computation; takes = (c.0, o.to, c.1, o.steps, q.takes); managed = q.managed; race_free = q.race_free; shows = q.shows }
 
   one_field : (x : Answer) → check (act_of f) s ≡ x → Computed τ (passing (f ∷ fs) s) (run_to end (f ∷ fs) s).state
-  one_field Go e = rw e (computed-on e)
+  one_field Go e = rw e (goes_on_lem e)
   one_field (Race v) e = rw e (stopped s τ S)
   one_field (Refuse r) e = rw e (stopped s τ S)
 
@@ -194,8 +194,8 @@ continued end (f ∷ fs) s τ a S = one_field f s τ a.0 S fs end (λ σ Q. cont
 traced_fresh : Traced (word fresh) (status_of fresh)
 traced_fresh = record { unwritten = λ j h. word-fresh (SelectorWord j); used = λ x n h. clash unset-unset (rw (word-fresh x) at n) }
 
-agrees_fresh : Agrees fresh (initial (λ x. 0))
-agrees_fresh = record { pointers = pointers; numbers = numbers; marks = λ e. rw (word-fresh (place_of e)) (sym (valid_below unset (omega arith))); frees = λ a. rw (status_fresh a) refl }
+shows_fresh : Shows fresh (initial (λ x. 0))
+shows_fresh = record { pointers = pointers; numbers = numbers; marks = λ e. rw (word-fresh (place_of e)) (sym (valid_below unset (omega arith))); frees = λ a. rw (status_fresh a) refl }
   where
     pointers : (e : PExp) → pval_at_first e ≡ pval_of fresh e
     pointers (pointer_var p) = rw (word-fresh (PointerWord p), unset-unset) refl
@@ -206,7 +206,7 @@ agrees_fresh = record { pointers = pointers; numbers = numbers; marks = λ e. rw
     numbers (data_of a) = rw (status_fresh a) refl
 
 standing_fresh : Standing fresh (initial (λ x. 0))
-standing_fresh = record { inv = inv_fresh; traced = traced_fresh; agrees = agrees_fresh; managed = tt; race_free = tt }
+standing_fresh = record { inv = inv_fresh; traced = traced_fresh; shows = shows_fresh; managed = tt; race_free = tt }
 
 pub computed : (n : ℕ) (log : List ℕ) → AreBytes log → Computed (initial (λ x. 0)) (passing (parse n log).fields fresh) (run_bytes n log fresh).state
 computed n log b = continued (parse n log).end (parse n log).fields fresh (initial (λ x. 0)) (taken n log b).readable standing_fresh

@@ -1,8 +1,8 @@
--- Source 004 beside the rules, one command: what passes is a step of the memory-managed semantics, and the state after it agrees
--- with the computation after it. Assumes nothing.
+-- Source 004 beside the rules, one command: what passes is a step of the memory-managed semantics, and the state after it shows the
+-- computation after it. Assumes nothing.
 use Prim.Native.Nat.{◌*◌, ◌+◌, ◌<◌, ℕ}
 use mathlib.Core.Path.{◌∙◌, ◌≡◌, ap, refl, sym}
-use mathlib.Core.Bool.{Bool, ◌&&◌, ◌||◌, and-false, and_true, cond, false, or-false, or-true, true}
+use mathlib.Core.Bool.{Bool, ◌&&◌, ◌||◌, and-false, and-true, cond, false, or-false, or-true, true}
 use mathlib.Core.List.{List, [], ◌∷◌}
 use native.Mathlib.Omega.{arith}
 use borrow.Author.Tests.{eqb-false, eqb-true}
@@ -23,18 +23,18 @@ use Rattle.rules.specs.Check.{as_wanted, holds, same_as_wanted}
 use Rattle.rules.specs.Effect.{apply, free, give}
 use Rattle.rules.specs.Matching.{Live}
 use Rattle.theorems.specs.Paper.{Adr, Asgn-compute, Asgn-copy, Asgn-load, Asgn-read, Asgn-store, Asgn-write, Asrt, Assert, Com, Computation, Compute, Cond, Copy, DExp, Free, Free-rule, Heap, Load, Malloc, Malloc1, Malloc2, PExp, ReadData, Rule, Selector, Store, Update, Values, WriteData, cell, data_of, data_to, data_var, defined, freed_after, freed_in, heap_of, index, is_seg, next_of, next₀, next₁, passes, pointer_to, pointer_var, received, same_adr, same_d_exp, same_data, same_p_exp, same_pointers, seg, then, valid_after, valid_in, valid_next, wanted_is}
-use Rattle.theorems.specs.Beside.{Agrees, Asserts, NoSeg, Returns, adr_of, dval_of, is_allocated, is_there, place_of, pval_of, says_apart, says_equal, says_same, says_unequal, valid_of}
+use Rattle.theorems.specs.Beside.{Asserts, NoSeg, Returns, Shows, adr_of, dval_of, is_allocated, is_there, place_of, pval_of, says_apart, says_equal, says_same, says_unequal, valid_of}
 use Rattle.theorems.proofs.Basics.{eqb_self, eqb_turn, split}
 use Rattle.theorems.proofs.States.{Within}
 use Rattle.theorems.proofs.Passed.{Set}
 use Rattle.theorems.proofs.Kept.{Inv, live_below, live-cell}
 use Rattle.theorems.proofs.PaperReading.{Traced, adr_set, allocated_live, dval_cell, dval-free, dval-new, dval-used, dval_variable, freed-free, freed-give, mark-free, mark-give, mark-write, not-in-use, pval-free, pval-new, pval-used, pval-write}
 
--- an update with its rule, and that the state after it agrees
+-- an update with its rule, and what the state shows after it
 pub record Stepped (τ : Computation) (thread : ℕ) (c : Com) (s : State) : Type 0 where
   pub up : List Update
   pub rule : Rule (heap_of τ) (freed_in τ) c up
-  pub agrees : Agrees s (then τ (record { thread = thread; command = c; up = up }))
+  pub shows : Shows s (then τ (record { thread = thread; command = c; up = up }))
 
 -- and the update returns the cell that is named
 abbrev pub Returning : Computation → ℕ → List RecordedCell → Com → State → Type 0
@@ -42,7 +42,7 @@ Returning τ thread named c s = (st : Stepped τ thread c s) × Returns st.up na
 
 received_cond : (b : Bool) (x e : PExp) (legal : PExp → Bool) → received b x legal e ≡ cond (same_p_exp x e) b (legal e)
 received_cond true x e legal = split (same_p_exp x e) (λ t. rw (t, or-true (legal e)) refl) (λ t. rw (t, or-false (legal e)) refl)
-received_cond false x e legal = split (same_p_exp x e) (λ t. rw (t, and-false (legal e)) refl) (λ t. rw (t, and_true (legal e)) refl)
+received_cond false x e legal = split (same_p_exp x e) (λ t. rw (t, and-false (legal e)) refl) (λ t. rw (t, and-true (legal e)) refl)
 
 wanted_same : (wanted found : Bool) → wanted_is wanted found ≡ as_wanted wanted found
 wanted_same true found = refl
@@ -63,7 +63,7 @@ compared_passed wanted v w h = split (is_unset v)
     (λ f. rw (e, f) refl)
     (λ f. compared_same wanted v w e f ∙ h))
 
-module _ (τ : Computation) (s : State) (H : Agrees s τ) where
+module _ (τ : Computation) (s : State) (H : Shows s τ) where
   pointers-compared : (wanted : Bool) (p q : ℕ) → passes wanted (heap_of τ) (same_pointers p q) ≡ comparison wanted (pointer s p) (pointer s q)
   pointers-compared wanted p q = rw (H.pointers (pointer_var p), H.pointers (pointer_var q)) refl
 
@@ -85,10 +85,10 @@ module _ (τ : Computation) (s : State) (H : Agrees s τ) where
   guard-passes g k (says_unequal {x} {y}) n = same-data-pass false x y
 
   -- an assertion changes nothing
-  pub agrees-assert : (thread : ℕ) (k : Cond) (up : List Update) → Rule (heap_of τ) (freed_in τ) (Assert k) up → Agrees s (then τ (record { thread = thread; command = Assert k; up = up }))
-  agrees-assert thread k up (Asrt e) = record { pointers = H.pointers; numbers = H.numbers; marks = H.marks; frees = H.frees }
+  pub shows-assert : (thread : ℕ) (k : Cond) (up : List Update) → Rule (heap_of τ) (freed_in τ) (Assert k) up → Shows s (then τ (record { thread = thread; command = Assert k; up = up }))
+  shows-assert thread k up (Asrt e) = record { pointers = H.pointers; numbers = H.numbers; marks = H.marks; frees = H.frees }
 
-module _ (τ : Computation) (s : State) (thread : ℕ) (H : Agrees s τ) (I : Inv s) (T : Traced (word s) (status_of s)) where
+module _ (τ : Computation) (s : State) (thread : ℕ) (H : Shows s τ) (I : Inv s) (T : Traced (word s) (status_of s)) where
   -- ---- what the paper's heap has, where a pointer is valid and set
   points-at : (p : ℕ) → Set s p → (heap_of τ).pval (pointer_var p) ≡ defined (cell (cell_of (pointer s p)))
   points-at p t = H.pointers (pointer_var p) ∙ ap (λ (b : Adr). defined b) (adr_set (pointer s p) t.pointing)
@@ -103,7 +103,7 @@ module _ (τ : Computation) (s : State) (thread : ℕ) (H : Agrees s τ) (I : In
   moved : (c : Com) (x : PExp) (w : ℕ) → Within (place_of x) → is_there s x ≡ true
       → ((e : PExp) → valid_after c (heap_of τ) (valid_in τ) e ≡ cond (same_p_exp x e) (is_valid w) (valid_in τ e))
       → ((h : Heap) (a : ℕ) → freed_after c (heap_of τ) h (freed_in τ) a ≡ freed_in τ a)
-      → Agrees (write (place_of x) w s) (then τ (record { thread = thread; command = c; up = pointer_to x (adr_of w) ∷ [] }))
+      → Shows (write (place_of x) w s) (then τ (record { thread = thread; command = c; up = pointer_to x (adr_of w) ∷ [] }))
   unfolding write
   moved c x w within there marks frees = record {
     pointers = λ e. rw (H.pointers e) (sym (pval-write s x w I.sized within there e));
@@ -120,7 +120,7 @@ module _ (τ : Computation) (s : State) (thread : ℕ) (H : Agrees s τ) (I : In
   step-copy p q hp = record {
     up = pointer_to (pointer_var p) (adr_of (pointer s q)) ∷ [];
     rule = Asgn-copy (H.pointers (pointer_var q));
-    agrees = moved (Copy p q) (pointer_var p) (pointer s q) hp refl (λ e. received_cond (valid_in τ (pointer_var q)) (pointer_var p) e (valid_in τ) ∙ rw (H.marks (pointer_var q)) refl) (λ h a. refl);
+    shows = moved (Copy p q) (pointer_var p) (pointer s q) hp refl (λ e. received_cond (valid_in τ (pointer_var q)) (pointer_var p) e (valid_in τ) ∙ rw (H.marks (pointer_var q)) refl) (λ h a. refl);
   }
 
   pub step-load : (p q : ℕ) (i : Selector) → p < 80 → Set s q → Stepped τ thread (Load p q i) (apply (Move (PointerVariable p) (SelectorOf q (index i))) s)
@@ -130,7 +130,7 @@ module _ (τ : Computation) (s : State) (thread : ℕ) (H : Agrees s τ) (I : In
       record {
         up = pointer_to (pointer_var p) (adr_of w) ∷ [];
         rule = Asgn-load (points-at q t) (next-value q i t);
-        agrees = moved (Load p q i) (pointer_var p) w hp refl (λ e. rw passed_on (received_cond (is_valid w) (pointer_var p) e (valid_in τ))) (λ h a. refl);
+        shows = moved (Load p q i) (pointer_var p) w hp refl (λ e. rw passed_on (received_cond (is_valid w) (pointer_var p) e (valid_in τ))) (λ h a. refl);
       }
 
   pub step-store : (p : ℕ) (i : Selector) (q : ℕ) → Set s p → Within (SelectorWord (2 * cell_of (pointer s p) + index i)) → Stepped τ thread (Store p i q) (apply (Move (SelectorOf p (index i)) (PointerVariable q)) s)
@@ -139,14 +139,14 @@ module _ (τ : Computation) (s : State) (thread : ℕ) (H : Agrees s τ) (I : In
       record {
         up = pointer_to (next_of a i) (adr_of (pointer s q)) ∷ [];
         rule = Asgn-store (points-at p t) (H.pointers (pointer_var q));
-        agrees = moved (Store p i q) (next_of a i) (pointer s q) within (cell-allocated p t) (λ e. rw (points-at p t) (received_cond (valid_in τ (pointer_var q)) (next_of a i) e (valid_in τ) ∙ rw (H.marks (pointer_var q)) refl)) (λ h b. refl);
+        shows = moved (Store p i q) (next_of a i) (pointer s q) within (cell-allocated p t) (λ e. rw (points-at p t) (received_cond (valid_in τ (pointer_var q)) (next_of a i) e (valid_in τ) ∙ rw (H.marks (pointer_var q)) refl)) (λ h b. refl);
       }
 
   -- ---- a data expression takes a number
   stored : (c : Com) (x : DExp) (y : DataPlace) (n : ℕ) → ((e : DExp) → dval_of (store y n s) e ≡ cond (same_d_exp x e) (defined n) (dval_of s e))
       → ((e : PExp) → valid_after c (heap_of τ) (valid_in τ) e ≡ valid_in τ e)
       → ((h : Heap) (a : ℕ) → freed_after c (heap_of τ) h (freed_in τ) a ≡ freed_in τ a)
-      → Agrees (store y n s) (then τ (record { thread = thread; command = c; up = data_to x n ∷ [] }))
+      → Shows (store y n s) (then τ (record { thread = thread; command = c; up = data_to x n ∷ [] }))
   unfolding store
   stored c x y n numbers marks frees = record {
     pointers = λ e. H.pointers e ∙ same-pointers e;
@@ -170,7 +170,7 @@ module _ (τ : Computation) (s : State) (thread : ℕ) (H : Agrees s τ) (I : In
       record {
         up = data_to (data_var x) n ∷ [];
         rule = Asgn-read (points-at p t) held;
-        agrees = stored (ReadData x p) (data_var x) (VariableNumber x) n (λ e. dval_variable s x n e I.sized hx) (λ e. refl) (λ h a. refl);
+        shows = stored (ReadData x p) (data_var x) (VariableNumber x) n (λ e. dval_variable s x n e I.sized hx) (λ e. refl) (λ h a. refl);
       }
 
   pub step-write : (p x : ℕ) → Set s p → Stepped τ thread (WriteData p x) (apply (Put (DataOf p) (Held (DataVariable x))) s)
@@ -181,14 +181,14 @@ module _ (τ : Computation) (s : State) (thread : ℕ) (H : Agrees s τ) (I : In
       record {
         up = data_to (data_of a) n ∷ [];
         rule = Asgn-write (points-at p t) (H.numbers (data_var x));
-        agrees = stored (WriteData p x) (data_of a) (CellNumber a) n (λ e. dval_cell s a n e I.sized l (live_below s a I.sized l)) (λ e. refl) (λ h b. refl);
+        shows = stored (WriteData p x) (data_of a) (CellNumber a) n (λ e. dval_cell s a n e I.sized l (live_below s a I.sized l)) (λ e. refl) (λ h b. refl);
       }
 
   pub step-compute : (x n : ℕ) (op : List ℕ → ℕ) (xs vs : List ℕ) → x < 80 → Values (heap_of τ) xs vs → op vs ≡ n → Stepped τ thread (Compute x op xs) (store (VariableNumber x) n s)
   step-compute x n op xs vs hx given e = record {
     up = data_to (data_var x) (op vs) ∷ [];
     rule = Asgn-compute vs given;
-    agrees = rw e (stored (Compute x op xs) (data_var x) (VariableNumber x) n (λ q. dval_variable s x n q I.sized hx) (λ q. refl) (λ h a. refl));
+    shows = rw e (stored (Compute x op xs) (data_var x) (VariableNumber x) n (λ q. dval_variable s x n q I.sized hx) (λ q. refl) (λ h a. refl));
   }
 
   -- ---- a free: (Free) has no constraint and no update
@@ -203,10 +203,10 @@ module _ (τ : Computation) (s : State) (thread : ℕ) (H : Agrees s τ) (I : In
           record {
             up = [];
             rule = Free-rule;
-            agrees = record {
+            shows = record {
               pointers = H.pointers;
               numbers = H.numbers;
-              marks = λ q. rw (nowhere, and_true (valid_in τ q)) (H.marks q);
+              marks = λ q. rw (nowhere, and-true (valid_in τ q)) (H.marks q);
               frees = λ a. rw (nowhere, or-false (freed_in τ a)) (H.frees a);
             };
           }
@@ -221,7 +221,7 @@ module _ (τ : Computation) (s : State) (thread : ℕ) (H : Agrees s τ) (I : In
           record {
             up = [];
             rule = Free-rule;
-            agrees = record {
+            shows = record {
               pointers = λ q. H.pointers q ∙ sym (pval-free s c z T l hc q);
               numbers = λ q. H.numbers q ∙ sym (dval-free s c z T l hc q);
               marks = λ q. rw (points-at p t, H.marks q, H.pointers q) (sym (mark-free s c z T l hc q));
@@ -241,7 +241,7 @@ module _ (τ : Computation) (s : State) (thread : ℕ) (H : Agrees s τ) (I : In
         let st : Stepped τ thread (Malloc p) (give p c d s) = record {
           up = ups;
           rule = Malloc1 (not-in-use s c T hc (heap_of τ) H.pointers H.numbers new);
-          agrees = record {
+          shows = record {
             pointers = λ e. rw (H.pointers e) (sym (pval-new s p c d z hp hc new e));
             numbers = λ e. rw (H.numbers e) (sym (dval-new s p c d z hp hc new e));
             marks = λ e. rw (H.marks e) (sym (mark-give s p c d z hp hc T e));
@@ -256,7 +256,7 @@ module _ (τ : Computation) (s : State) (thread : ℕ) (H : Agrees s τ) (I : In
         let st : Stepped τ thread (Malloc p) (give p c d s) = record {
           up = pointer_to (pointer_var p) (cell c) ∷ [];
           rule = Malloc2 (H.frees c ∙ rw old refl);
-          agrees = record {
+          shows = record {
             pointers = λ e. rw (H.pointers e) (sym (pval-used s p c d z hp hc old e));
             numbers = λ e. H.numbers e ∙ sym (dval-used s p c d z hp hc old e);
             marks = λ e. rw (H.marks e) (sym (mark-give s p c d z hp hc T e));

@@ -1,23 +1,18 @@
--- What it says that a command passed its checks: what is asserted on, freed or gone through is valid, and what is gone through set. And
--- what it says that it was not refused by 11.
+-- What it says that a command passed its checks: what is asserted on, freed or gone through is valid, and what is gone through set.
 -- Assumes nothing.
 use Prim.Native.Nat.{ℕ}
-use mathlib.Core.Path.{◌∙◌, ◌≡◌, sym}
+use mathlib.Core.Path.{◌≡◌}
 use mathlib.Core.Bool.{false, true}
-use mathlib.Core.List.{List, [], ◌++◌, ◌∷◌}
+use mathlib.Core.List.{[], ◌++◌, ◌∷◌}
 use borrow.Author.Tests.{not-true}
-use Rattle.fields.specs.declared.RecordedCell.{RecordedCell}
-use Rattle.fields.specs.declared.Refusal.TheVariants.{TooManyMallocs}
-use Rattle.fields.specs.Order.{in_order}
-use Rattle.fields.proofs.Passing.{every_cut, in-order-append, taken}
+use Rattle.fields.proofs.Passing.{every_cut}
 use Rattle.rules.specs.declared.Act.{Act}
-use Rattle.rules.specs.declared.Answer.{Answer}
-use Rattle.rules.specs.declared.Answer.TheVariants.{Go, Race, Refuse}
+use Rattle.rules.specs.declared.Answer.TheVariants.{Go, Race}
 use Rattle.rules.specs.Words.{is_unset, is_valid}
 use Rattle.rules.specs.State.{State, pointer}
-use Rattle.rules.specs.Acts.{compared, frees, gives, through, touched}
-use Rattle.rules.specs.Check.{check, check_by, each, points, room_for, valid}
-use Rattle.rules.proofs.Checks.{Clear, PassedBy, each_clear, each-stops, guard_tests, passed_by, race-stops, room_tests, set_tests, touched_all, vacancy_tests}
+use Rattle.rules.specs.Acts.{compared, frees, through, touched}
+use Rattle.rules.specs.Check.{check, each, points, valid}
+use Rattle.rules.proofs.Checks.{Clear, PassedBy, each_clear, each-stops, passed_by, race-stops}
 
 abbrev pub Passed : Act → State → Type 0
 Passed a s = PassedBy (each (valid s) Race (touched a)) a s
@@ -34,22 +29,9 @@ pub record Looked (a : Act) (s : State) : Type 0 where
 pub looked : (a : Act) (s : State) → Passed a s → Looked a s
 looked a s p =
     let Q : ℕ → Type 0 = λ k. valid s k ≡ true in
-    let t = every_cut Q (compared a.guard) (frees a.change ++ through a.change) (rw (touched_all a) at (each_clear (valid s) Race (touched a) p.raceless)) in
+    let t = every_cut Q (compared a.guard) (frees a.change ++ through a.change) (each_clear (valid s) Race (touched a) p.raceless) in
     let u = every_cut Q (frees a.change) (through a.change) t.1 in
     record { compares = t.0; frees = u.0; goes = u.1 }
-
--- a command that is not refused by 11 has room for the cell that it gives out
-pub room_left : (a : Act) (s : State) (x : Answer) → (Refuse TooManyMallocs ≡ x → ⊥) → check a s ≡ x → Clear (room_for s) (gives a.change)
-unfolding check_by
-room_left a s x n e =
-    let rest = each (valid s) Race (touched a) ++ (set_tests a s ++ (vacancy_tests a s ++ guard_tests a s)) in
-    clear (gives a.change) (in_order (λ y. y) Go rest) (sym (in-order-append (λ (y : Answer). y) Go (room_tests a s) rest) ∙ e)
-  where
-    clear : (l : List RecordedCell) (later : Answer) → in_order (λ answer. answer) later (each (room_for s) (λ c. Refuse TooManyMallocs) l) ≡ x → Clear (room_for s) l
-    clear [] later e = tt
-    clear (c ∷ l) later e =
-        let p = taken (room_for s c) (in_order (λ answer. answer) later (each (room_for s) (λ c. Refuse TooManyMallocs) l)) (Refuse TooManyMallocs) x n e in
-        (p.0, clear l later p.1)
 
 -- a variable that is gone through is valid and set
 pub record Set (s : State) (p : ℕ) : Type 0 where

@@ -17,18 +17,18 @@ use Rattle.rules.specs.declared.Change.TheVariants.{Allocate, Move, Put, Release
 use Rattle.rules.specs.declared.Act.{Act}
 use Rattle.rules.specs.declared.Place.{Place}
 use Rattle.rules.specs.declared.Place.TheVariants.{PointerWord, SelectorWord}
-use Rattle.rules.specs.declared.Answer.TheVariants.{Go}
+use Rattle.rules.specs.declared.Answer.{Answer}
+use Rattle.rules.specs.declared.Answer.TheVariants.{Go, Race, Refuse}
 use Rattle.rules.specs.Words.{cell_of, is_unset, is_valid, unset}
 use Rattle.rules.specs.State.{State, freed, fresh, live, never_used, pointer, status_of, store, word, write}
 use Rattle.rules.specs.Acts.{frees, gives}
 use Rattle.rules.specs.Commands.{act_of}
 use Rattle.rules.specs.Check.{check, room_for, valid}
 use Rattle.rules.specs.Effect.{apply, count_field, effect, free, give}
-use Rattle.rules.specs.Run.{Accepted, run}
-use Rattle.rules.specs.Replay.{Matching, copy_act, copy_change, copy_field, next_cell, rematched, replay, start}
+use Rattle.rules.specs.Run.{Accepted, Outcome, next, run}
+use Rattle.rules.specs.Replay.{Matching, copy_act, copy_change, copy_field, next_cell, rematch, replay, start}
 use Rattle.rules.specs.Matching.{Alike, Along, Live, Match, Owned, twin}
 use Rattle.rules.proofs.Checks.{Clear}
-use Rattle.rules.proofs.Tallies.{next-accepted}
 use Rattle.theorems.proofs.Basics.{split}
 use Rattle.theorems.proofs.States.{status_set}
 use Rattle.theorems.proofs.Passed.{looked, passed}
@@ -41,34 +41,43 @@ use Rattle.theorems.proofs.Tables.{act_copy}
 abbrev pub All : (Act → Type 0) → List Field → Type 0
 All P fs = Every (λ f. P (act_of f)) fs
 
+pub next-accepted : (x : Answer) (f : Field) (s : State) (later : Outcome) (n k l : ℕ) → (next x s.fields f s later).verdict ≡ Accepted n k l → x ≡ Go
+next-accepted Go f s later n k l e = refl
+next-accepted (Race v) f s later n k l e = absurd (let z : ◌≡◌ {A = ℕ} 0 1 = cc in omega arith)
+next-accepted (Refuse r) f s later n k l e = absurd (let z : ◌≡◌ {A = ℕ} 0 1 = cc in omega arith)
+
+-- the matching after a field f of the recording and a field g of the replay
+abbrev onward : Field → Field → Matching → Matching
+onward f g m = rematch (gives (act_of f).change) (gives (act_of g).change) m
+
 -- ---- the copy of a log under any choice of cells, from both states
-abbrev pub replay_by : (State → State → ReplayCell) → State → State → Matching → List Field → List Field
-replay_by choose R S m [] = []
-replay_by choose R S m (f ∷ fs) =
-    let g = copy_field R m (choose R S) f in
-    g ∷ replay_by choose (effect (act_of f) R) (effect (act_of g) S) (rematched f g m) fs
+abbrev pub replay_by : (State → State → ReplayCell) → State → State → List Field → List Field
+replay_by choose R S [] = []
+replay_by choose R S (f ∷ fs) =
+    let g = copy_field R (choose R S) f in
+    g ∷ replay_by choose (effect (act_of f) R) (effect (act_of g) S) fs
 
 -- the choice is apt where I holds, and I is kept
 module _ (choose : State → State → ReplayCell) (I : State → State → Type 0)
     (apt : (R S : State) (a : Act) → I R S → NamedAct a → check a R ≡ Go → Apt S (choose R S) a.change)
-    (keeps : (R S : State) (m : Matching) (a : Act) → Pair R S (flat m) → I R S → NamedAct a → check a R ≡ Go → I (effect a R) (effect (copy_act R m (choose R S) a) S)) where
+    (keeps : (R S : State) (m : Matching) (a : Act) → Pair R S (flat m) → I R S → NamedAct a → check a R ≡ Go → I (effect a R) (effect (copy_act R (choose R S) a) S)) where
   abbrev Both : State → State → Matching → Type 0
   Both R S m = Pair R S (flat m) × I R S
 
   along : (fs : List Field) (R S : State) (m : Matching) (n k l : ℕ) → Both R S m → All NamedAct fs → (run fs R).verdict ≡ Accepted n k l
-      → Along Both fs (replay_by choose R S m fs) R S m × All NamedAct (replay_by choose R S m fs)
+      → Along Both fs (replay_by choose R S fs) R S m × All NamedAct (replay_by choose R S fs)
   along [] R S m n k l P w e = (P, tt)
   along (f ∷ fs) R S m n k l P w e =
       let a : Act = act_of f in
       let c : ReplayCell = choose R S in
-      let g : Field = copy_field R m c f in
+      let g : Field = copy_field R c f in
       let b : Act = act_of g in
-      let same : b ≡ copy_act R m c a = act_copy R m c f in
+      let same : b ≡ copy_act R c a = act_copy R c f in
       let here : check a R ≡ Go = next-accepted (check a R) f R (run fs (effect a R)) n k l e in
       let z : Apt S c a.change = apt R S a P.1 w.0 here in
       let there : check b S ≡ Go = rw same (check-step m P.0 c a z here) in
-      let Q : Both (effect a R) (effect b S) (rematched f g m) = rw same (step m P.0 c a z w.0.1 here, keeps R S m a P.0 P.1 w.0 here) in
-      let r = along fs (effect a R) (effect b S) (rematched f g m) n k l Q w.1 (rw here at e) in
+      let Q : Both (effect a R) (effect b S) (onward f g m) = rw same (step m P.0 c a z w.0.1 here, keeps R S m a P.0 P.1 w.0 here) in
+      let r = along fs (effect a R) (effect b S) (onward f g m) n k l Q w.1 (rw here at e) in
       ((P, here, there, r.0), (rw same (named_step m P.0 c a z w.0), r.1))
 
 -- ---- what is tied all along is judged alike
@@ -77,7 +86,7 @@ alike : (X : State → State → Matching → Type 0) → ((R S : State) (m : Ma
 alike X x [] [] R S m A = let T = x R S m A in rw (T.fields, T.mallocs, T.count) refl
 alike X x [] (g ∷ gs) R S m A = absurd A
 alike X x (f ∷ fs) [] R S m A = absurd A
-alike X x (f ∷ fs) (g ∷ gs) R S m A = rw (A.1, A.2) (alike X x fs gs (effect (act_of f) R) (effect (act_of g) S) (rematched f g m) A.3)
+alike X x (f ∷ fs) (g ∷ gs) R S m A = rw (A.1, A.2) (alike X x fs gs (effect (act_of f) R) (effect (act_of g) S) (onward f g m) A.3)
 
 -- what holds all along holds in a weaker form
 along_map : (X Y : State → State → Matching → Type 0) → ((R S : State) (m : Matching) → X R S m → Y R S m)
@@ -85,7 +94,7 @@ along_map : (X Y : State → State → Matching → Type 0) → ((R S : State) (
 along_map X Y y [] [] R S m A = y R S m A
 along_map X Y y [] (g ∷ gs) R S m A = absurd A
 along_map X Y y (f ∷ fs) [] R S m A = absurd A
-along_map X Y y (f ∷ fs) (g ∷ gs) R S m A = (y R S m A.0, A.1, A.2, along_map X Y y fs gs (effect (act_of f) R) (effect (act_of g) S) (rematched f g m) A.3)
+along_map X Y y (f ∷ fs) (g ∷ gs) R S m A = (y R S m A.0, A.1, A.2, along_map X Y y fs gs (effect (act_of f) R) (effect (act_of g) S) (onward f g m) A.3)
 
 -- ---- the clauses of the mission
 pair_match : (R S : State) (m : Matching) → Pair R S (flat m) → Match R S m
@@ -139,28 +148,28 @@ unused_step (Move x y) s k v n g u h = h
 unused_step (Put x w) s k v n g u h = h
 
 -- the copy names no cell beyond the count of mallocs after it
-beyond_cell : (R : State) (m : Matching) (c : Change) (k : ℕ) → (apply c R).mallocs ≤ k → Every (λ g. g.0 ≡ k → ⊥) (gives (copy_change R m (next_cell R) c)) × (R.mallocs ≤ k)
+beyond_cell : (R : State) (c : Change) (k : ℕ) → (apply c R).mallocs ≤ k → Every (λ g. g.0 ≡ k → ⊥) (gives (copy_change R (next_cell R) c)) × (R.mallocs ≤ k)
 unfolding give free write store
-beyond_cell R m Stay k h = (tt, h)
-beyond_cell R m (Allocate p c d) k h = (((λ q. omega arith), tt), omega arith)
-beyond_cell R m (Release p) k h = (tt, rw (either (λ (s : State). s.mallocs ≡ R.mallocs) (is_unset (pointer R p)) {x = R} {y = free (cell_of (pointer R p)) R} refl refl) at h)
-beyond_cell R m (Move x y) k h = (tt, h)
-beyond_cell R m (Put x v) k h = (tt, h)
+beyond_cell R Stay k h = (tt, h)
+beyond_cell R (Allocate p c d) k h = (((λ q. omega arith), tt), omega arith)
+beyond_cell R (Release p) k h = (tt, rw (either (λ (s : State). s.mallocs ≡ R.mallocs) (is_unset (pointer R p)) {x = R} {y = free (cell_of (pointer R p)) R} refl refl) at h)
+beyond_cell R (Move x y) k h = (tt, h)
+beyond_cell R (Put x v) k h = (tt, h)
 
-next_keeps : (R S : State) (m : Matching) (a : Act) → Pair R S (flat m) → Beyond R S → NamedAct a → check a R ≡ Go → Beyond (effect a R) (effect (copy_act R m (next_cell R) a) S)
+next_keeps : (R S : State) (m : Matching) (a : Act) → Pair R S (flat m) → Beyond R S → NamedAct a → check a R ≡ Go → Beyond (effect a R) (effect (copy_act R (next_cell R) a) S)
 unfolding count_field
 next_keeps R S m a P B n e = λ k h.
     let c : ReplayCell = next_cell R in
-    let b : Act = copy_act R m c a in
+    let b : Act = copy_act R c a in
     let z = next_apt R S a B n e in
-    let q = beyond_cell R m a.change k h in
+    let q = beyond_cell R a.change k h in
     unused_step b.change S k P.right (named_step m P c a z n).1 (looked b S (passed b S (check-step m P c a z e))).frees q.0 (B k q.1)
 
-replay-next : (fs : List Field) (R S : State) (m : Matching) → replay_by in_order_of_mallocs R S m fs ≡ replay R m fs
-replay-next [] R S m = refl
-replay-next (f ∷ fs) R S m =
-    let g : Field = copy_field R m (next_cell R) f in
-    ap (λ (l : List Field). g ∷ l) (replay-next fs (effect (act_of f) R) (effect (act_of g) S) (rematched f g m))
+replay-next : (fs : List Field) (R S : State) → replay_by in_order_of_mallocs R S fs ≡ replay R fs
+replay-next [] R S = refl
+replay-next (f ∷ fs) R S =
+    let g : Field = copy_field R (next_cell R) f in
+    ap (λ (l : List Field). g ∷ l) (replay-next fs (effect (act_of f) R) (effect (act_of g) S))
 
 -- ---- from the start
 never_live {ℓ} : {A : Type ℓ} (c : ℕ) → Live fresh c → A
@@ -184,16 +193,16 @@ pair_fresh = record {
 }
 
 pub record Replayed (fs : List Field) (n k l : ℕ) : Type 0 where
-  pub accepts : (run (replay fresh start fs) fresh).verdict ≡ Accepted n k l
-  pub matches : Along Match fs (replay fresh start fs) fresh fresh start
-  pub named : All NamedAct (replay fresh start fs)
+  pub accepts : (run (replay fresh fs) fresh).verdict ≡ Accepted n k l
+  pub matches : Along Match fs (replay fresh fs) fresh fresh start
+  pub named : All NamedAct (replay fresh fs)
 
 pub replayed : (fs : List Field) (n k l : ℕ) → All NamedAct fs → (run fs fresh).verdict ≡ Accepted n k l → Replayed fs n k l
 replayed fs n k l a e =
     let T : State → State → Matching → Type 0 = λ R S m. Pair R S (flat m) × Beyond R S in
-    let A = rw (replay-next fs fresh fresh start) at (along in_order_of_mallocs Beyond next_apt next_keeps fs fresh fresh start n k l (pair_fresh, λ j h. status_fresh j) a e) in
+    let A = rw (replay-next fs fresh fresh) at (along in_order_of_mallocs Beyond next_apt next_keeps fs fresh fresh start n k l (pair_fresh, λ j h. status_fresh j) a e) in
     record {
-      accepts = alike T (λ R S m P. P.0.tied) fs (replay fresh start fs) fresh fresh start A.0 ∙ e;
-      matches = along_map T Match (λ R S m P. pair_match R S m P.0) fs (replay fresh start fs) fresh fresh start A.0;
+      accepts = alike T (λ R S m P. P.0.tied) fs (replay fresh fs) fresh fresh start A.0 ∙ e;
+      matches = along_map T Match (λ R S m P. pair_match R S m P.0) fs (replay fresh fs) fresh fresh start A.0;
       named = A.1;
     }

@@ -1,7 +1,7 @@
 -- Order 3: of an accepted log and its replay the parts of the same field number are equal but for a malloc's cell and data; what is
 -- shown begins at the field's offset; and the field of a stop is shown, unless a reading check gave the stop. Assumes nothing.
 use Prim.Native.Nat.{◌+◌, ◌<◌, ◌≤◌, suc, zero, ℕ}
-use mathlib.Core.Path.{◌∙◌, ◌≡◌, ap, refl, sym}
+use mathlib.Core.Path.{◌∙◌, ◌≡◌, ap, refl, subst, sym}
 use mathlib.Core.Bool.{Bool, cond, false, true}
 use mathlib.Core.List.{List, [], ◌++◌, ◌∷◌, append-nil}
 use native.Mathlib.Nat.{le_of_suc-le-suc, not-suc-le-zero}
@@ -11,19 +11,20 @@ use lib.Dec.{leb, ltb}
 use lib.ListN.{drop, length, take}
 use lib.Seq.{drop-append-add, drop-append_seam, take-append-add, take-append_seam}
 use Rattle.fields.specs.declared.Field.{Field}
+use Rattle.fields.specs.declared.RecordedCell.{RecordedCell}
 use Rattle.fields.specs.declared.Refusal.{Refusal}
-use Rattle.fields.specs.declared.Refusal.TheVariants.{FieldNotReached, LogTooLong, TooManyMallocs}
+use Rattle.fields.specs.declared.Refusal.TheVariants.{FieldNotReached, LogTooLong, TooManyFields, TooManyMallocs}
 use Rattle.fields.specs.Bytes.{pack, to_bytes, total}
 use Rattle.fields.specs.Checks.{may_name, value_checks}
 use Rattle.fields.specs.Every.{AreBytes, Every}
 use Rattle.fields.specs.Limits.{header_bytes, log_bytes, log_fields, log_mallocs}
-use Rattle.fields.specs.Order.{test}
-use Rattle.fields.specs.Read.{Got, Refused as Unread, field_of, framing_checks, read_field, tag_in, value_in, field_by, read_by}
+use Rattle.fields.specs.Order.{Test, in_order, test}
+use Rattle.fields.specs.Read.{Got, Reading, Refused as Unread, field_of, framing_checks, read_field, tag_in, value_in}
 use Rattle.fields.specs.Refusals.{number_of}
-use Rattle.fields.specs.Rows.{is_tag, length_of, row_of, widths_of, widths_by, length_by}
-use Rattle.fields.specs.Write.{field_bytes, bytes_by}
+use Rattle.fields.specs.Rows.{is_tag, length_of, row_of, widths_of}
+use Rattle.fields.specs.Write.{field_bytes}
 use Rattle.fields.proofs.Digits.{length_to_bytes}
-use Rattle.fields.proofs.Passing.{all-passed}
+use Rattle.fields.proofs.Passing.{all-passed, either, in-order-append, taken}
 use Rattle.fields.proofs.RoundTrip.{Readable, there}
 use Rattle.fields.proofs.Tags.{tag_below}
 use Rattle.fields.proofs.Writing.{length-field_bytes}
@@ -36,33 +37,33 @@ use Rattle.rules.specs.declared.ReplayCell.{ReplayCell}
 use Rattle.rules.specs.declared.Shown.TheVariants.{Part, Refused}
 use Rattle.rules.specs.declared.Verdict.{Verdict}
 use Rattle.rules.specs.declared.Verdict.TheVariants as told
-use Rattle.rules.specs.Acts.{gives}
-use Rattle.rules.specs.Check.{check, room_for}
+use Rattle.rules.specs.Acts.{gives, touched}
+use Rattle.rules.specs.Check.{check, check_by, each, room_for, valid}
 use Rattle.rules.specs.Cases.{bytes_c}
 use Rattle.rules.specs.Commands.{act_of, command_of}
-use Rattle.rules.specs.Effect.{effect}
-use Rattle.rules.specs.Log.{located, offset_of, parse, run_bytes}
-use Rattle.rules.specs.Replay.{Matching, bytes_of, copy_field, next_cell, rematched, replay, replay_bytes, start}
+use Rattle.rules.specs.Effect.{apply, count_field, effect, free, give}
+use Rattle.rules.specs.Log.{located, offset_of, onward, parse, run_bytes}
+use Rattle.rules.specs.Replay.{bytes_of, copy_field, next_cell, replay, replay_bytes}
 use Rattle.rules.specs.Run.{Accepted, End, Ending, Outcome, Raced, Refused as RefusedAt, next, run, run_to, unread, whole}
 use Rattle.rules.specs.Showing.{AlikeButGiven, before_cell, fields_read, mallocs_of, part_in, roomy, shown_in, size_in}
-use Rattle.rules.specs.State.{State, fresh}
-use Rattle.rules.proofs.Checks.{Clear}
-use Rattle.rules.proofs.Tallies.{counted, effect_mallocs, fresh_fields, fresh_mallocs, next-accepted}
+use Rattle.rules.specs.State.{State, fresh, pointer, store, write}
+use Rattle.rules.specs.Words.{is_unset}
+use Rattle.rules.proofs.Checks.{Clear, guard_tests, room_tests, set_tests, vacancy_tests}
+use Rattle.rules.proofs.Tallies.{counted}
 use Rattle.theorems.proofs.Logs.{fields_of}
-use Rattle.theorems.proofs.Passed.{room_left}
-use Rattle.theorems.proofs.Reading.{ByReading, parse_end}
+use Rattle.theorems.proofs.Replayed.{next-accepted}
 use Rattle.theorems.proofs.Tables.{same_change, same_field_lem}
 
 -- ---- the bytes of a field, and those that come before its cell and its data
 tag_first : (f : Field) (r : List ℕ) → is_tag f.tag ≡ true → tag_in (field_bytes f ++ r) ≡ f.tag
-unfolding bytes_by
+unfolding field_bytes
 tag_first f r known = let t = tag_below f.tag known in omega arith
 
 tag_here : (f : Field) → is_tag f.tag ≡ true → tag_in (field_bytes f) ≡ f.tag
 tag_here f known = rw (append-nil (field_bytes f)) at (tag_first f [] known)
 
 got_field : (s : List ℕ) (f : Field) → read_field s ≡ Got f → field_of (tag_in s) (value_in s) ≡ f
-unfolding read_by
+unfolding read_field
 got_field s f e =
     let g = field_of (tag_in s) (value_in s) in
     let p = all-passed Unread (Got g) (framing_checks s ++ value_checks (row_of (tag_in s)) g) (Got f) (λ r q. let z : ◌≡◌ {A = ℕ} 0 1 = cc in omega arith) e in
@@ -88,11 +89,11 @@ abbrev front_numbers : Field → List ℕ
 front_numbers f = f.tag ∷ length_of f.tag ∷ f.thread ∷ f.first ∷ f.second ∷ f.third ∷ []
 
 bytes_split : (f : Field) → field_bytes f ≡ pack (front_widths f ++ drop 4 (widths_of (row_of f.tag))) (front_numbers f ++ (f.cell.0 ∷ f.number ∷ []))
-unfolding bytes_by widths_by
+unfolding field_bytes widths_of
 bytes_split f = refl
 
 front_widths_lem : (f : Field) → length (front_widths f) ≡ length (front_numbers f)
-unfolding widths_by
+unfolding widths_of
 front_widths_lem f = refl
 
 front_bytes : (f : Field) → is_tag f.tag ≡ true → before_cell (field_bytes f) ≡ pack (front_widths f) (front_numbers f)
@@ -103,15 +104,15 @@ front_bytes f known =
     ∙ pack-front (front_widths f) (drop 4 (widths_of (row_of f.tag))) (front_numbers f) (f.cell.0 ∷ f.number ∷ []) (front_widths_lem f))
 
 -- a field's bytes and those of its copy in the replay
-alike_copy : (s : State) (m : Matching) (k : ReplayCell) (f : Field) → Readable f → AlikeButGiven (field_bytes f) (field_bytes (copy_field s m k f))
-alike_copy s m k f R =
-    let g : Field = copy_field s m k f in
+alike_copy : (s : State) (k : ReplayCell) (f : Field) → Readable f → AlikeButGiven (field_bytes f) (field_bytes (copy_field s k f))
+alike_copy s k f R =
+    let g : Field = copy_field s k f in
     record {
       size = length-field_bytes g ∙ sym (length-field_bytes f);
       front = front_bytes g R.tag ∙ sym (front_bytes f R.tag);
       other = λ e.
           let none : gives (act_of f).change ≡ [] = rw (field_here f R) at e in
-          let same : g ≡ f = rw (same_change s m k (act_of f).change none) (same_field_lem (act_of f).change f none) in
+          let same : g ≡ f = rw (same_change s k (act_of f).change none) (same_field_lem (act_of f).change f none) in
           ap field_bytes same;
     }
 
@@ -142,22 +143,22 @@ record Beside (log copy : List ℕ) (n : ℕ) : Type 0 where
   size : size_in (from n copy) ≡ size_in (from n log)
   alike : AlikeButGiven (take (size_in (from n log)) (from n log)) (take (size_in (from n copy)) (from n copy))
 
-beside : (fs : List Field) (s : State) (m : Matching) (n : ℕ) → Every Readable fs → Every Readable (replay s m fs) → n < length fs → Beside (bytes_of fs) (bytes_of (replay s m fs)) n
-beside [] s m n R C h = absurd (not-suc-le-zero h)
-beside (f ∷ fs) s m zero R C h =
-    let g : Field = copy_field s m (next_cell s) f in
+beside : (fs : List Field) (s : State) (n : ℕ) → Every Readable fs → Every Readable (replay s fs) → n < length fs → Beside (bytes_of fs) (bytes_of (replay s fs)) n
+beside [] s n R C h = absurd (not-suc-le-zero h)
+beside (f ∷ fs) s zero R C h =
+    let g : Field = copy_field s (next_cell s) f in
     let r = bytes_of fs in
-    let r' = bytes_of (replay (effect (act_of f) s) (rematched f g m) fs) in
+    let r' = bytes_of (replay (effect (act_of f) s) fs) in
     record {
       offset = refl;
       size = rw (tag_first f r R.0.tag, tag_first g r' C.0.tag) refl;
-      alike = rw (part-front f r R.0.tag, part-front g r' C.0.tag) (alike_copy s m (next_cell s) f R.0);
+      alike = rw (part-front f r R.0.tag, part-front g r' C.0.tag) (alike_copy s (next_cell s) f R.0);
     }
-beside (f ∷ fs) s m (suc n) R C h =
-    let g : Field = copy_field s m (next_cell s) f in
+beside (f ∷ fs) s (suc n) R C h =
+    let g : Field = copy_field s (next_cell s) f in
     let r = bytes_of fs in
-    let r' = bytes_of (replay (effect (act_of f) s) (rematched f g m) fs) in
-    let later = beside fs (effect (act_of f) s) (rematched f g m) n R.1 C.1 (le_of_suc-le-suc h) in
+    let r' = bytes_of (replay (effect (act_of f) s) fs) in
+    let later = beside fs (effect (act_of f) s) n R.1 C.1 (le_of_suc-le-suc h) in
     record {
       offset = rw (offset-later f r R.0.tag n, offset-later g r' C.0.tag n) (omega (arith, later.offset, length-field_bytes f, length-field_bytes g));
       size = rw (from-later f r R.0.tag n, from-later g r' C.0.tag n) later.size;
@@ -198,6 +199,18 @@ shown_beside log copy n size count both = by (leb (length log) log_bytes) (ltb n
         record { answer = rw (p, q) refl; parts = rw (p, q) alike-none }
 
 -- ---- check 11
+mallocs_after : (c : Change) (s : State) → (apply c s).mallocs ≡ s.mallocs + length (gives c)
+unfolding give write store free
+mallocs_after Stay s = omega arith
+mallocs_after (Allocate p c d) s = omega arith
+mallocs_after (Release p) s = either (λ (t : State). t.mallocs ≡ s.mallocs + 0) (is_unset (pointer s p)) (omega arith) (omega arith)
+mallocs_after (Move x y) s = omega arith
+mallocs_after (Put x v) s = omega arith
+
+effect_mallocs : (a : Act) (s : State) → (effect a s).mallocs ≡ s.mallocs + length (gives a.change)
+unfolding count_field
+effect_mallocs a s = mallocs_after a.change s
+
 room_clear : (c : Change) (s : State) → s.mallocs ≤ log_mallocs → Clear (room_for s) (gives c) → s.mallocs + length (gives c) ≤ log_mallocs
 room_clear Stay s h e = omega arith
 room_clear (Allocate p c d) s h e = omega (arith, ltb-true s.mallocs log_mallocs e.0)
@@ -205,9 +218,20 @@ room_clear (Release p) s h e = omega arith
 room_clear (Move x y) s h e = omega arith
 room_clear (Put x v) s h e = omega arith
 
--- a command that is not refused by 11 stays within the limit
-room_within : (a : Act) (s : State) (x : Answer) → s.mallocs ≤ log_mallocs → (Refuse TooManyMallocs ≡ x → ⊥) → check a s ≡ x → s.mallocs + length (gives a.change) ≤ log_mallocs
-room_within a s x h n e = room_clear a.change s h (room_left a s x n e)
+clear_tests : (s : State) (l : List RecordedCell) (later x : Answer) → (Refuse TooManyMallocs ≡ x → ⊥)
+    → in_order (λ answer. answer) later (each (room_for s) (λ c. Refuse TooManyMallocs) l) ≡ x → Clear (room_for s) l
+clear_tests s [] later x n e = tt
+clear_tests s (c ∷ l) later x n e =
+    let p = taken (room_for s c) (in_order (λ answer. answer) later (each (room_for s) (λ c. Refuse TooManyMallocs) l)) (Refuse TooManyMallocs) x n e in
+    (p.0, clear_tests s l later x n p.1)
+
+-- a command that is not refused by 11 has room
+room_left : (a : Act) (s : State) (x : Answer) → s.mallocs ≤ log_mallocs → (Refuse TooManyMallocs ≡ x → ⊥) → check a s ≡ x → s.mallocs + length (gives a.change) ≤ log_mallocs
+unfolding check_by
+room_left a s x h n e =
+    let rest = each (valid s) Race (touched a) ++ (set_tests a s ++ (vacancy_tests a s ++ guard_tests a s)) in
+    let first = sym (in-order-append (λ (y : Answer). y) Go (room_tests a s) rest) ∙ e in
+    room_clear a.change s h (clear_tests s (gives a.change) (in_order (λ y. y) Go rest) x n first)
 
 not_go : Refuse TooManyMallocs ≡ Go → ⊥
 not_go e = let z : ◌≡◌ {A = ℕ} 0 1 = cc in omega arith
@@ -221,27 +245,35 @@ all_roomy [] s n k l h e = refl
 all_roomy (f ∷ fs) s n k l h e =
     let a : Act = act_of f in
     let here : check a s ≡ Go = next-accepted (check a s) f s (run fs (effect a s)) n k l e in
-    let room = room_within a s Go h not_go here in
+    let room = room_left a s Go h not_go here in
     let count = effect_mallocs a s in
     let later : roomy (effect a s).mallocs fs ≡ fs = all_roomy fs (effect a s) n k l (omega (arith, count, room)) (rw here at e) in
     rw (le-leb (s.mallocs + mallocs_of f) log_mallocs room) (ap (λ (r : List Field). f ∷ r) (rw count at later))
+
+fresh_fields : fresh.fields ≡ 0
+unfolding fresh
+fresh_fields = refl
+
+fresh_mallocs : fresh.mallocs ≡ 0
+unfolding fresh
+fresh_mallocs = refl
 
 -- of an accepted log every field is read
 all_read : (log : List ℕ) (fs : List Field) (n k l : ℕ) → (parse log_fields log).fields ≡ fs → (run fs fresh).verdict ≡ Accepted n k l → fields_read log ≡ fs
 all_read log fs n k l e q = rw e (rw fresh_mallocs at (all_roomy fs fresh n k l (omega (arith, fresh_mallocs)) q))
 
 -- for an accepted log and its replay, the two parts of the same field number are equal but for a malloc's cell and data
-pub shown_alike : (log : List ℕ) (fields mallocs live : ℕ) → AreBytes log → (run_bytes log_fields log fresh).verdict ≡ Accepted fields mallocs live
+pub shown-alike : (log : List ℕ) (fields mallocs live : ℕ) → AreBytes log → (run_bytes log_fields log fresh).verdict ≡ Accepted fields mallocs live
     → (n : ℕ) → ShownAlike log (replay_bytes log_fields log) n
 unfolding replay_bytes
-shown_alike log x y l b e n =
+shown-alike log x y l b e n =
     let p = fields_of log_fields log x y l b e in
     let fs : List Field = (parse log_fields log).fields in
-    let gs : List Field = replay fresh start fs in
+    let gs : List Field = replay fresh fs in
     let all = all_read log fs x y l refl p.accepted in
     let all' = all_read (replay_bytes log_fields log) gs x y l (rw p.again refl) p.replays.accepts in
     shown_beside log (replay_bytes log_fields log) n (p.copies.bytes ∙ ap length p.bytes) (rw (all, all') p.copies.count)
-    (λ h. rw p.bytes at (beside fs fresh start n p.readable p.copies.readable (rw all at h)))
+    (λ h. rw p.bytes at (beside fs fresh n p.readable p.copies.readable (rw all at h)))
 
 -- ---- what is shown begins at the field's offset, that of a stop among them
 pub shown_starts : (log : List ℕ) (n at size : ℕ) → shown_in log n ≡ Part at size → at ≡ offset_of n log
@@ -256,6 +288,36 @@ shown_starts log n at size e =
     sym there
 
 -- ---- the field of a stop is shown, unless a reading check gave the stop
+-- the refusals of the reading checks are 3 to 11
+abbrev ByReading : Refusal → Type 0
+ByReading r = number_of r ≤ 11
+
+says : (f : Field) (ts : List (Test Refusal)) (r : Refusal) → Every (λ t. ByReading t.says) ts → in_order Unread (Got f) ts ≡ Unread r → ByReading r
+says f [] r all e = absurd (let z : ◌≡◌ {A = ℕ} 0 1 = cc in omega arith)
+says f (t ∷ ts) r all e = by t.passes e (λ q. says f ts r all.1 q)
+  where
+    by : (b : Bool) → cond b (in_order Unread (Got f) ts) (Unread t.says) ≡ Unread r → (in_order Unread (Got f) ts ≡ Unread r → ByReading r) → ByReading r
+    by true e later = later e
+    by false e later = let same : t.says ≡ r = cc in subst ByReading same all.0
+
+read_refusal : (s : List ℕ) (r : Refusal) → read_field s ≡ Unread r → ByReading r
+unfolding read_field
+read_refusal s r e =
+    let f = field_of (tag_in s) (value_in s) in
+    says f (framing_checks s ++ value_checks (row_of (tag_in s)) f) r
+    (omega arith, (omega arith, (omega arith, (omega arith, (omega arith, (omega arith, (omega arith, (omega arith, tt)))))))) e
+
+parse_end : (k : ℕ) (b : List ℕ) (r : Refusal) → (parse k b).end ≡ unread r → ByReading r
+parse_end zero [] r e = absurd (let z : ◌≡◌ {A = ℕ} 0 1 = cc in omega arith)
+parse_end zero (x ∷ b) r e = let same : TooManyFields ≡ r = cc in subst ByReading same (omega arith)
+parse_end (suc k) [] r e = absurd (let z : ◌≡◌ {A = ℕ} 0 1 = cc in omega arith)
+parse_end (suc k) (x ∷ b) r e = by (read_field (x ∷ b)) refl e (λ rest q. parse_end k rest r q)
+  where
+    by : (y : Reading) → read_field (x ∷ b) ≡ y → (onward y (x ∷ b) (λ rest. parse k rest)).end ≡ unread r
+        → ((rest : List ℕ) → (parse k rest).end ≡ unread r → ByReading r) → ByReading r
+    by (Got f) read e later = later (drop (header_bytes + length_of f.tag) (x ∷ b)) e
+    by (Unread q) read e later = let same : q ≡ r = cc in read_refusal (x ∷ b) r (read ∙ ap Unread same)
+
 -- a stop at field n by what the field does: a race, or a refusal that no reading check gives
 abbrev pub ByDeed : Ending → ℕ → Type 0
 ByDeed (Accepted fields mallocs live) n = ⊥
@@ -282,12 +344,12 @@ reached end (f ∷ fs) s n reading h stop = by (check (act_of f) s) refl stop (�
         → ((effect (act_of f) s).mallocs ≤ log_mallocs → ByDeed later.verdict n → n < (effect (act_of f) s).fields + length (roomy (effect (act_of f) s).mallocs fs))
         → n < s.fields + length (roomy s.mallocs (f ∷ fs))
     by Go e stop on =
-        let room = room_within (act_of f) s Go h not_go e in
+        let room = room_left (act_of f) s Go h not_go e in
         let count = effect_mallocs (act_of f) s in
         let far = rw count at (on (omega (arith, count, room)) stop) in
         within room (omega (arith, far, (counted (act_of f) s).fields))
-    by (Race p) e stop on = within (room_within (act_of f) s (Race p) h (not-race p) e) (omega (arith, stop))
-    by (Refuse r) e stop on = within (room_within (act_of f) s (Refuse r) h (not_eleven r stop.1) e) (omega (arith, stop.0))
+    by (Race p) e stop on = within (room_left (act_of f) s (Race p) h (not-race p) e) (omega (arith, stop))
+    by (Refuse r) e stop on = within (room_left (act_of f) s (Refuse r) h (not_eleven r stop.1) e) (omega (arith, stop.0))
 
 pub stop_shown : (log : List ℕ) (n : ℕ) → length log ≤ log_bytes → ByDeed (run_bytes log_fields log fresh).verdict n
     → shown_in log n ≡ Part (offset_of n log) (size_in (drop (offset_of n log) log))
@@ -311,9 +373,9 @@ stop_starts log (RefusedAt r field) n offset at size stop shown = shown_starts l
 
 -- ---- case C: the field that races, and none after it
 pub race_of_c : (shown_in bytes_c 3 ≡ Part 22 6) × (part_in bytes_c 3 ≡ 6 ∷ 3 ∷ 0 ∷ 1 ∷ 24 ∷ 24 ∷ [])
-unfolding row_of is_tag widths_by length_by may_name field_by read_by command_of shown_in
+unfolding row_of is_tag widths_of length_of may_name field_of read_field command_of shown_in
 race_of_c = (refl, refl)
 
 pub past_c : (shown_in bytes_c 4 ≡ Refused FieldNotReached 0) × (part_in bytes_c 4 ≡ [])
-unfolding row_of is_tag widths_by length_by may_name field_by read_by command_of shown_in
+unfolding row_of is_tag widths_of length_of may_name field_of read_field command_of shown_in
 past_c = (refl, refl)

@@ -1,9 +1,10 @@
--- The state after each effect: a word after a copy, a free or a malloc, and a status after a free or a malloc.
+-- The state after each effect: a word after a copy, a free or a malloc; a status after a store; how many cells are live.
 -- Assumes nothing.
-use Prim.Native.Nat.{◌*◌, ◌+◌, ◌/◌, ◌<◌, ℕ}
+use Prim.Native.Nat.{◌*◌, ◌+◌, ◌/◌, ◌<◌, suc, zero, ℕ}
 use mathlib.Core.Path.{◌∙◌, ◌≡◌, ap, refl, subst}
 use mathlib.Core.Bool.{Bool, ◌&&◌, cond, false}
-use mathlib.Core.List.{List, map}
+use mathlib.Core.List.{List, [], ◌∷◌, map}
+use native.Mathlib.Nat.{le_of_suc-le-suc, not-suc-le-zero}
 use native.Mathlib.Omega.{arith}
 use borrow.Author.Tests.{eq-eqb, eqb-false, eqb-true, ne_eqb}
 use lib.Dec.{eqb}
@@ -12,17 +13,25 @@ use lib.Seq.{get_or-set_other}
 use Rattle.rules.specs.declared.Place.{Place}
 use Rattle.rules.specs.declared.Place.TheVariants.{PointerWord, SelectorWord}
 use Rattle.rules.specs.Words.{after_free, invalidated, unset, word_at}
-use Rattle.rules.specs.State.{State, board_pointers, freed, heap_selectors, live, never_used, status_of, word, write}
+use Rattle.rules.specs.State.{State, live, never_used, status_of, word, write}
 use Rattle.rules.specs.Effect.{change_own, change_word, free, give}
-use Rattle.rules.proofs.Sizes.{Sized}
+use Rattle.rules.specs.Run.{live_count}
 use Rattle.theorems.proofs.Basics.{get_d_set, split}
 use Rattle.theorems.proofs.Words.{after_free-unset, freed_at, invalidated-after_free}
 
--- ---- a word after a write, at a place within what is lent
-abbrev pub Within : Place → Type 0
-Within (PointerWord i) = i < board_pointers
-Within (SelectorWord j) = j < heap_selectors
+-- ---- the sizes of what is lent
+pub record Sized (s : State) : Type 0 where
+  pub pointers : length s.pointers ≡ 80
+  pub selectors : length s.selectors ≡ 2048
+  pub variables : length s.variables ≡ 80
+  pub numbers : length s.numbers ≡ 1024
+  pub status : length s.status ≡ 1024
 
+abbrev pub Within : Place → Type 0
+Within (PointerWord i) = i < 80
+Within (SelectorWord j) = j < 2048
+
+-- ---- a word after a write
 abbrev pub eq_place : Place → Place → Bool
 eq_place (PointerWord i) (PointerWord j) = eqb i j
 eq_place (PointerWord i) (SelectorWord j) = false
@@ -44,12 +53,15 @@ own_selector c j k g = split (eqb (2 * c + 1) j)
     (λ f. rw (e, f, eq-eqb c (j / 2) (omega (arith, eqb-true (2 * c) j f))) (ap g (eqb-true (2 * c) j f)))
     (λ f. rw (e, f, ne_eqb c (j / 2) (λ q. omega (arith, eqb-false (2 * c + 1) j e, eqb-false (2 * c) j f)))))
 
-word-change_own : (f : ℕ → ℕ) (c j : ℕ) (l : List ℕ) → length l ≡ heap_selectors → c < 1024 → word_at (change_own f c l) j ≡ cond (eqb c (j / 2)) (f (word_at l j)) (word_at l j)
+word-change_own : (f : ℕ → ℕ) (c j : ℕ) (l : List ℕ) → length l ≡ 2048 → c < 1024 → word_at (change_own f c l) j ≡ cond (eqb c (j / 2)) (f (word_at l j)) (word_at l j)
 word-change_own f c j l n h =
     let first : List ℕ = change_word f (2 * c) l in
     let other : word_at first (2 * c + 1) ≡ word_at l (2 * c + 1) = get_or-set_other l (2 * c) (2 * c + 1) (f (word_at l (2 * c))) unset (λ q. omega arith) in
     get_d_set first (2 * c + 1) j (f (word_at first (2 * c + 1))) unset (rw length-set (omega arith))
     ∙ rw other (ap (cond (eqb (2 * c + 1) j) (f (word_at l (2 * c + 1)))) (get_d_set l (2 * c) j (f (word_at l (2 * c))) unset (omega arith)) ∙ own_selector c j (word_at l j) (λ i. f (word_at l i)))
+
+pub length-change_own : (f : ℕ → ℕ) (c : ℕ) (l : List ℕ) → length (change_own f c l) ≡ length l
+length-change_own f c l = length-set (set l _ _) _ _ ∙ length-set l _ _
 
 -- ---- a word after a free
 word-after_free : (c : ℕ) (l : List ℕ) (j : ℕ) → c < 1024 → word_at (map (after_free c) l) j ≡ after_free c (word_at l j)
@@ -75,14 +87,11 @@ word-give s p c d (SelectorWord j) z hp hc = split (eqb (status_of s c) never_us
     (λ e. rw e (word-change_own (λ w. unset) c j s.selectors z.selectors hc))
     (λ e. rw e refl)
 
--- ---- a status after a store, a free and a malloc
+-- ---- statuses
 pub status_set : (s : State) (c v : ℕ) → Sized s → c < 1024 → (k : ℕ) → get_or (set s.status c v) k never_used ≡ cond (eqb c k) v (status_of s k)
 status_set s c v z h k = get_d_set s.status c k v never_used (omega (arith, z.status))
 
-pub status_free : (s : State) (c : ℕ) → Sized s → c < 1024 → (k : ℕ) → status_of (free c s) k ≡ cond (eqb c k) freed (status_of s k)
-unfolding free
-status_free s c z h k = status_set s c freed z h k
-
-pub status_give : (s : State) (p c d : ℕ) → Sized s → c < 1024 → (k : ℕ) → status_of (give p c d s) k ≡ cond (eqb c k) live (status_of s k)
-unfolding give
-status_give s p c d z h k = status_set s c live z h k
+pub count_set : (l : List ℕ) (c v : ℕ) → c < length l → live_count (set l c v) + cond (eqb (get_or l c never_used) live) 1 0 ≡ live_count l + cond (eqb v live) 1 0
+count_set [] c v h = absurd (not-suc-le-zero h)
+count_set (x ∷ l) zero v h = omega arith
+count_set (x ∷ l) (suc c) v h = omega (arith, count_set l c v (le_of_suc-le-suc h))

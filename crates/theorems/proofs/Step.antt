@@ -7,7 +7,6 @@ use borrow.Author.Tests.{eqb-false, not-true}
 use lib.Dec.{eqb}
 use Rattle.fields.proofs.Passing.{every_cut}
 use Rattle.rules.specs.declared.ReplayCell.{ReplayCell}
-use Rattle.rules.specs.declared.Guard.{Guard}
 use Rattle.rules.specs.declared.Change.{Change}
 use Rattle.rules.specs.declared.Change.TheVariants.{Allocate, Move, Put, Release, Stay}
 use Rattle.rules.specs.declared.Act.{Act}
@@ -34,7 +33,7 @@ Apt S k (Move x y) = Unit {0}
 Apt S k (Put x v) = Unit {0}
 
 module _ {R S : State} (m : Matching) (P : Pair R S (flat m)) (k : ReplayCell) where
-  room-sim : (c : Change) → Apt S k c → Clear (room_for R) (gives c) → Clear (room_for S) (gives (copy_change R m k c)) × Clear (vacant S) (gives (copy_change R m k c))
+  room-sim : (c : Change) → Apt S k c → Clear (room_for R) (gives c) → Clear (room_for S) (gives (copy_change R k c)) × Clear (vacant S) (gives (copy_change R k c))
   room-sim Stay z e = (tt, tt)
   room-sim (Allocate p c d) z e = ((rw (← P.tied.mallocs) e.0, tt), (rw z.1 refl, tt))
   room-sim (Release p) z e = (tt, tt)
@@ -42,22 +41,21 @@ module _ {R S : State} (m : Matching) (P : Pair R S (flat m)) (k : ReplayCell) w
   room-sim (Put x v) z e = (tt, tt)
 
   -- the copy looks at the same variables
-  looks-same : (g : Guard) (c : Change) → (through (copy_change R m k c) ≡ through c) × (touched (record { guard = g; change = copy_change R m k c }) ≡ touched (record { guard = g; change = c }))
-  looks-same g Stay = (refl, refl)
-  looks-same g (Allocate p c d) = (refl, refl)
-  looks-same g (Release p) = (refl, refl)
-  looks-same g (Move x y) = (refl, refl)
-  looks-same g (Put x v) = (refl, refl)
+  looks-same : (c : Change) → (through (copy_change R k c) ≡ through c) × (frees (copy_change R k c) ≡ frees c)
+  looks-same Stay = (refl, refl)
+  looks-same (Allocate p c d) = (refl, refl)
+  looks-same (Release p) = (refl, refl)
+  looks-same (Move x y) = (refl, refl)
+  looks-same (Put x v) = (refl, refl)
 
-  check-sim : (a : Act) → Apt S k a.change → Passed a R → Passed (copy_act R m k a) S
+  check-sim : (a : Act) → Apt S k a.change → Passed a R → Passed (copy_act R k a) S
   check-sim a z g =
       let l = looked a R g in
       let r = room-sim a.change z g.room in
-      let same = looks-same a.guard a.change in
       record {
         room = r.0;
-        raceless = rw same.1 (clear_each (valid S) Race (touched a) (clear-valid P (touched a) (each_clear (valid R) Race (touched a) g.raceless)));
-        pointing = rw same.0 (clear-points P (through a.change) l.goes g.pointing);
+        raceless = rw ((looks-same a.change).0, (looks-same a.change).1) (clear_each (valid S) Race (touched a) (clear-valid P (touched a) (each_clear (valid R) Race (touched a) g.raceless)));
+        pointing = rw (looks-same a.change).0 (clear-points P (through a.change) l.goes g.pointing);
         unlive = r.1;
         holding = holds-sim P a.guard l.compares ∙ g.holding;
       }
@@ -70,7 +68,7 @@ module _ {R S : State} (m : Matching) (P : Pair R S (flat m)) (k : ReplayCell) w
       rw (e, pointer-cell P p t) (free-sim P (cell_of (pointer R p)) (live-cell R p P.left t))))
 
   apply-sim : (c : Change) → Apt S k c → Named c → Clear (vacant R) (gives c) → Clear (valid R) (frees c) → Clear (valid R) (through c) → Clear (points R) (through c)
-      → Tied (apply c R) (apply (copy_change R m k c) S) (flat (rematch (gives c) (gives (copy_change R m k c)) m))
+      → Tied (apply c R) (apply (copy_change R k c) S) (flat (rematch (gives c) (gives (copy_change R k c)) m))
   apply-sim Stay z n t f v u = P.tied
   apply-sim (Allocate p c d) z n t f v u = give-sim P p c.0 d k.0 n.0 n.1 (eqb-false (status_of R c.0) live (not-true (eqb (status_of R c.0) live) t.0)) z.0 z.1
   apply-sim (Release p) z n t f v u = release-sim p f.0
@@ -88,26 +86,26 @@ module _ {R S : State} (m : Matching) (P : Pair R S (flat m)) (k : ReplayCell) w
       let h = every_cut (λ i. points R i ≡ true) (data_through x) (value_through w) u in
       rw (value-sim P w e.1 h.1) (store-sim P x (value R w) e.0 h.0)
 
-  named-change : (c : Change) → Apt S k c → Named c → Named (copy_change R m k c)
+  named-change : (c : Change) → Apt S k c → Named c → Named (copy_change R k c)
   named-change Stay z n = n
   named-change (Allocate p c d) z n = (n.0, z.0)
   named-change (Release p) z n = n
   named-change (Move x y) z n = n
   named-change (Put x w) z n = n
 
-  pub named_step : (a : Act) → Apt S k a.change → NamedAct a → NamedAct (copy_act R m k a)
+  pub named_step : (a : Act) → Apt S k a.change → NamedAct a → NamedAct (copy_act R k a)
   named_step a z n = (n.0, named-change a.change z n.1)
 
-  pub check-step : (a : Act) → Apt S k a.change → check a R ≡ Go → check (copy_act R m k a) S ≡ Go
-  check-step a z e = pass_by (each (valid S) Race (touched (copy_act R m k a))) (copy_act R m k a) S (check-sim a z (passed a R e))
+  pub check-step : (a : Act) → Apt S k a.change → check a R ≡ Go → check (copy_act R k a) S ≡ Go
+  check-step a z e = pass_by (each (valid S) Race (touched (copy_act R k a))) (copy_act R k a) S (check-sim a z (passed a R e))
 
   pub step : (a : Act) → Apt S k a.change → Named a.change → check a R ≡ Go
-      → Pair (effect a R) (effect (copy_act R m k a) S) (flat (rematch (gives a.change) (gives (copy_act R m k a).change) m))
+      → Pair (effect a R) (effect (copy_act R k a) S) (flat (rematch (gives a.change) (gives (copy_act R k a).change) m))
   step a z n e =
       let g = passed a R e in
       let l = looked a R g in
       record {
         left = keep a R P.left n e;
-        right = keep (copy_act R m k a) S P.right (named-change a.change z n) (check-step a z e);
+        right = keep (copy_act R k a) S P.right (named-change a.change z n) (check-step a z e);
         tied = count_field_sim (apply-sim a.change z n g.unlive l.frees l.goes g.pointing);
       }

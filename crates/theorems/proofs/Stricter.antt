@@ -11,7 +11,7 @@ use Rattle.rules.specs.Commands.{command_of}
 use Rattle.rules.specs.Check.{check_by, same_as_wanted}
 use Rattle.rules.specs.Effect.{count_field, free, give}
 use Rattle.rules.specs.Run.{run}
-use Rattle.rules.specs.Replay.{Matching, replay, start, starting_data}
+use Rattle.rules.specs.Replay.{Matching, replay, starting_data}
 use Rattle.rules.specs.Matching.{Alike, Live, Match, Owned, twin}
 use Rattle.rules.specs.Cases.{log_e}
 
@@ -24,7 +24,7 @@ recorded : State
 recorded = (run log_e fresh).state
 
 copied : State
-copied = (run (replay fresh start log_e) fresh).state
+copied = (run (replay fresh log_e) fresh).state
 
 cell_recorded : cell_of (pointer recorded 16) ≡ 6
 unfolding recorded is_valid cell_of is_unset invalidated after_free fresh write store command_of same_as_wanted check_by give free count_field
@@ -39,7 +39,7 @@ unfolding copied is_valid cell_of is_unset invalidated after_free fresh write st
 no_such_cell = refl
 
 -- whatever the matching is
-pub stricter_fails : (m : Matching) → Stricter (run log_e fresh).state (run (replay fresh start log_e) fresh).state m → ⊥
+pub stricter_fails : (m : Matching) → Stricter (run log_e fresh).state (run (replay fresh log_e) fresh).state m → ⊥
 unfolding recorded copied
 stricter_fails m M = apart (M.cells (PointerWord 16) tt)
   where

@@ -13,7 +13,7 @@ use Rattle.fields.specs.declared.rows.Slot.{Slot}
 use Rattle.fields.specs.declared.rows.Slot.TheVariants.{Absent, Data, Pointer, Selector}
 use Rattle.fields.specs.declared.rows.Row.{Row}
 use Rattle.fields.specs.Every.{Every}
-use Rattle.fields.specs.Rows.{cell, no_row, number, row, row_of, rows, widths_of, widths_by}
+use Rattle.fields.specs.Rows.{cell, no_row, number, row, row_of, rows, widths_of}
 use Rattle.fields.specs.Numbers.{numbers_of}
 use Rattle.fields.specs.Checks.{is_cell, is_named, is_selected, may_name, value_checks}
 use Rattle.fields.proofs.Passing.{Passes}
@@ -26,7 +26,7 @@ use Rattle.rules.specs.declared.Act.{Act}
 use Rattle.rules.specs.State.{State}
 use Rattle.rules.specs.Acts.{gives}
 use Rattle.rules.specs.Commands.{act_of, command_of, commands, does, no_command}
-use Rattle.rules.specs.Replay.{Matching, copy_act, copy_change, copy_field, recast}
+use Rattle.rules.specs.Replay.{copy_act, copy_change, copy_field, recast}
 use Rattle.theorems.proofs.Basics.{or_second, split}
 use Rattle.theorems.proofs.Kept.{Named, NamedAct}
 use Rattle.theorems.proofs.Ranges.{Bounded, Small, starting_data_below}
@@ -96,22 +96,20 @@ record Fine (r : Row) (command : Field → Act) : Type 0 where
   -- what the reading checks pass stays within what is lent, and its numbers are small
   named : (f : Field) → Facts r f → NamedAct (command f)
   small : (f : Field) → Fit (widths_of r) (numbers_of f) → Small (command f).change
-  -- the cell and the data of a malloc are the field's own
-  own : (f : Field) → recast (command f).change f ≡ f
   -- the command of a field's copy is the copy of its command; its numbers fit, and pass the checks
-  copies : (s : State) (m : Matching) (k : ReplayCell) (f : Field) → command (recast (copy_change s m k (command f).change) f) ≡ copy_act s m k (command f)
-  fits : (s : State) (m : Matching) (k : ReplayCell) (f : Field) → Bounded s → Named (copy_change s m k (command f).change)
-      → Fit (widths_of r) (numbers_of f) → Fit (widths_of r) (numbers_of (recast (copy_change s m k (command f).change) f))
-  right : (s : State) (m : Matching) (k : ReplayCell) (f : Field) → Named (copy_change s m k (command f).change)
-      → Every Passes (value_checks r f) → Every Passes (value_checks r (recast (copy_change s m k (command f).change) f))
+  copies : (s : State) (k : ReplayCell) (f : Field) → command (recast (copy_change s k (command f).change) f) ≡ copy_act s k (command f)
+  fits : (s : State) (k : ReplayCell) (f : Field) → Bounded s → Named (copy_change s k (command f).change)
+      → Fit (widths_of r) (numbers_of f) → Fit (widths_of r) (numbers_of (recast (copy_change s k (command f).change) f))
+  right : (s : State) (k : ReplayCell) (f : Field) → Named (copy_change s k (command f).change)
+      → Every Passes (value_checks r f) → Every Passes (value_checks r (recast (copy_change s k (command f).change) f))
 
 -- a command that gives out no cell is copied as it is, and so is its field
-pub same_change : (s : State) (m : Matching) (k : ReplayCell) (c : Change) → gives c ≡ [] → copy_change s m k c ≡ c
-same_change s m k Stay e = refl
-same_change s m k (Allocate p c d) e = absurd (let z : ◌≡◌ {A = ℕ} 0 1 = cc in omega arith)
-same_change s m k (Release p) e = refl
-same_change s m k (Move x y) e = refl
-same_change s m k (Put x v) e = refl
+pub same_change : (s : State) (k : ReplayCell) (c : Change) → gives c ≡ [] → copy_change s k c ≡ c
+same_change s k Stay e = refl
+same_change s k (Allocate p c d) e = absurd (let z : ◌≡◌ {A = ℕ} 0 1 = cc in omega arith)
+same_change s k (Release p) e = refl
+same_change s k (Move x y) e = refl
+same_change s k (Put x v) e = refl
 
 pub same_field_lem : (c : Change) (f : Field) → gives c ≡ [] → recast c f ≡ f
 same_field_lem Stay f e = refl
@@ -120,29 +118,27 @@ same_field_lem (Release p) f e = refl
 same_field_lem (Move x y) f e = refl
 same_field_lem (Put x v) f e = refl
 
-pub same_copy : (s : State) (m : Matching) (k : ReplayCell) (c : Change) (f : Field) → gives c ≡ [] → recast (copy_change s m k c) f ≡ f
-same_copy s m k c f e = ap (λ (b : Change). recast b f) (same_change s m k c e) ∙ same_field_lem c f e
+same_copy : (s : State) (k : ReplayCell) (c : Change) (f : Field) → gives c ≡ [] → recast (copy_change s k c) f ≡ f
+same_copy s k c f e = ap (λ (b : Change). recast b f) (same_change s k c e) ∙ same_field_lem c f e
 
 giving_none : {r : Row} {command : Field → Act} → ((f : Field) → Facts r f → NamedAct (command f))
     → ((f : Field) → Fit (widths_of r) (numbers_of f) → Small (command f).change) → ((f : Field) → gives (command f).change ≡ []) → Fine r command
 giving_none {r} {command} named small none = record {
   named = named;
   small = small;
-  own = λ f. same_field_lem (command f).change f (none f);
-  copies = λ s m k f. ap command (same_copy s m k (command f).change f (none f)) ∙ sym (ap (λ (c : Change). record { guard = (command f).guard; change = c }) (same_change s m k (command f).change (none f)));
-  fits = λ s m k f b n q. subst (λ (g : Field). Fit (widths_of r) (numbers_of g)) (sym (same_copy s m k (command f).change f (none f))) q;
-  right = λ s m k f n q. subst (λ (g : Field). Every Passes (value_checks r g)) (sym (same_copy s m k (command f).change f (none f))) q;
+  copies = λ s k f. ap command (same_copy s k (command f).change f (none f)) ∙ sym (ap (λ (c : Change). record { guard = (command f).guard; change = c }) (same_change s k (command f).change (none f)));
+  fits = λ s k f b n q. subst (λ (g : Field). Fit (widths_of r) (numbers_of g)) (sym (same_copy s k (command f).change f (none f))) q;
+  right = λ s k f n q. subst (λ (g : Field). Every Passes (value_checks r g)) (sym (same_copy s k (command f).change f (none f))) q;
 }
 
 malloc_row : Fine (row Pointer Absent Absent cell number) (λ f. does (Allocate f.first f.cell f.number))
-unfolding widths_by
+unfolding widths_of
 malloc_row = record {
   named = λ f h. (tt, (h.0, h.3));
   small = λ f q. q.1.1.1.1.1.0;
-  own = λ f. refl;
-  copies = λ s m k f. refl;
-  fits = λ s m k f b n q. (q.0, (q.1.0, (q.1.1.0, (q.1.1.1.0, (omega (arith, n.1), (starting_data_below s f.cell f.number q.1.1.1.1.1.0 b, tt))))));
-  right = λ s m k f n q. (q.0, (q.1.0, (q.1.1.0, (lt-ltb k.0 1024 n.1, tt))));
+  copies = λ s k f. refl;
+  fits = λ s k f b n q. (q.0, (q.1.0, (q.1.1.0, (q.1.1.1.0, (omega (arith, n.1), (starting_data_below s f.cell f.number q.1.1.1.1.1.0 b, tt))))));
+  right = λ s k f n q. (q.0, (q.1.0, (q.1.1.0, (lt-ltb k.0 1024 n.1, tt))));
 }
 
 infixr 4 ◌▹◌
@@ -150,7 +146,7 @@ pub ◌▹◌ : {A B : Type 0} → A → B → A × B
 a ▹ b = (a, b)
 
 fine : RowByRow Fine rows commands
-unfolding widths_by
+unfolding widths_of
 fine =
     giving_none (λ f h. (tt, tt)) (λ f q. tt) (λ f. refl)
     -- 1: p := malloc
@@ -190,11 +186,8 @@ unfolding row_of command_of
 fine_at tag = at_row Fine rows commands tag (giving_none (λ f h. (tt, tt)) (λ f q. tt) (λ f. refl)) fine
 
 -- ---- of a field that was read
-pub act_copy : (s : State) (m : Matching) (k : ReplayCell) (f : Field) → act_of (copy_field s m k f) ≡ copy_act s m k (act_of f)
-act_copy s m k f = (fine_at f.tag).copies s m k f
-
-pub own_field : (f : Field) → recast (act_of f).change f ≡ f
-own_field f = (fine_at f.tag).own f
+pub act_copy : (s : State) (k : ReplayCell) (f : Field) → act_of (copy_field s k f) ≡ copy_act s k (act_of f)
+act_copy s k f = (fine_at f.tag).copies s k f
 
 pub readable_named : (f : Field) → Readable f → NamedAct (act_of f)
 readable_named f R = (fine_at f.tag).named f (facts (row_of f.tag) f R.right)
@@ -202,9 +195,9 @@ readable_named f R = (fine_at f.tag).named f (facts (row_of f.tag) f R.right)
 pub readable_small : (f : Field) → Readable f → Small (act_of f).change
 readable_small f R = (fine_at f.tag).small f R.fit
 
-pub readable_copy : (s : State) (m : Matching) (k : ReplayCell) (f : Field) → Readable f → Bounded s → Named (copy_act s m k (act_of f)).change → Readable (copy_field s m k f)
-readable_copy s m k f R b n = record {
+pub readable_copy : (s : State) (k : ReplayCell) (f : Field) → Readable f → Bounded s → Named (copy_act s k (act_of f)).change → Readable (copy_field s k f)
+readable_copy s k f R b n = record {
   tag = R.tag;
-  fit = (fine_at f.tag).fits s m k f b n R.fit;
-  right = (fine_at f.tag).right s m k f n R.right;
+  fit = (fine_at f.tag).fits s k f b n R.fit;
+  right = (fine_at f.tag).right s k f n R.right;
 }

@@ -1,6 +1,6 @@
 -- The rules beside source 004: its notions as they are read off a state, and its commands as the commands of the rules say them.
 -- Where document 01 differs from the paper, or the paper is silent, a comment says so. Assumes nothing.
-use Rattle.std.specs.Prelude.{ℕ, ◌+◌, ◌*◌, ◌%◌, ◌≡◌, Bool, true, false, not, cond, ◌⊎◌, List, [], ◌∷◌, ◌++◌, eqb, get_or}
+use Rattle.std.specs.Prelude.{ℕ, ◌+◌, ◌*◌, ◌%◌, ◌≡◌, Bool, true, false, not, cond, ◌⊎◌, List, [], ◌∷◌, eqb, get_or}
 use Rattle.fields.specs.declared.Field.{Field}
 use Rattle.fields.specs.declared.RecordedCell.{RecordedCell}
 use Rattle.fields.specs.Every.{Every}
@@ -22,7 +22,7 @@ use Rattle.rules.specs.Acts.{gives}
 use Rattle.rules.specs.Commands.{does, asserts, act_of}
 use Rattle.rules.specs.Check.{check}
 use Rattle.rules.specs.Effect.{effect}
-use Rattle.theorems.specs.Paper.{Selector, index, Cond, same_pointers, same_data, negated, Com, Assert, Malloc, Free, Load, Store, Copy, ReadData, WriteData, Compute, Adr, seg, cell, PExp, pointer_var, next_of, DExp, data_var, data_of, Partial, undefined, defined, Update, pointer_to, data_to, Computation, then, heap_of, freed_in, valid_in, contained, NotValid, PointerRace, RaceFree, Rule, MemoryManaged}
+use Rattle.theorems.specs.Paper.{Selector, index, Cond, same_pointers, same_data, negated, Com, Assert, Malloc, Free, Load, Store, Copy, ReadData, WriteData, Compute, Adr, seg, cell, PExp, pointer_var, next_of, DExp, data_var, data_of, Partial, undefined, defined, Update, pointer_to, data_to, Computation, then, heap_of, freed_in, valid_in, PointerRace, RaceFree, Rule, MemoryManaged}
 
 -- ---- where document 01 differs from the paper, or the paper leaves a choice
 -- Sizes: the paper bounds neither variables, addresses nor computations; 3, 8, 10 and 11 are limits of document 01.
@@ -67,7 +67,7 @@ abbrev pub freed_of : State → ℕ → Bool
 freed_of s a = eqb (status_of s a) freed
 
 -- the words, marks and statuses of s are exactly the heap, the valid expressions and the freed addresses of τ
-pub record Agrees (s : State) (τ : Computation) : Type 0 where
+pub record Shows (s : State) (τ : Computation) : Type 0 where
   pub pointers : (e : PExp) → (heap_of τ).pval e ≡ pval_of s e
   pub numbers : (e : DExp) → (heap_of τ).dval e ≡ dval_of s e
   pub marks : (e : PExp) → valid_in τ e ≡ valid_of s e
@@ -102,27 +102,18 @@ pub data Says : Change → Com → Type 0 where
   says_constant : {x n : ℕ} → Says (Put (DataVariable x) (Constant n)) (Compute x (λ vs. n) [])
   says_sum : {x y z : ℕ} → Says (Put (DataVariable x) (Sum y z)) (Compute x wrapping_sum (y ∷ z ∷ []))
 
--- An act means its change, its assertion, or both: the assertion and then the change, in a row, as the paper's cas does.
+-- An act takes its change, its assertion, or both: the assertion and then the change, in a row, as the paper's cas does.
 -- A change that is guarded gives out no cell: 11 comes before a race, so it would hide a race of the assertion.
-pub data Means : Act → List Com → Type 0 where
-  change : {m : Change} {c : Com} → Says m c → Means (does m) (c ∷ [])
-  assertion : {g : Guard} {k : Cond} → Asserts g k → Means (asserts g) (Assert k ∷ [])
-  both : {g : Guard} {k : Cond} {m : Change} {c : Com} → Asserts g k → Says m c → gives m ≡ [] → Means (record { guard = g; change = m }) (Assert k ∷ c ∷ [])
+pub data Takes : Act → List Com → Type 0 where
+  change : {m : Change} {c : Com} → Says m c → Takes (does m) (c ∷ [])
+  assertion : {g : Guard} {k : Cond} → Asserts g k → Takes (asserts g) (Assert k ∷ [])
+  both : {g : Guard} {k : Cond} {m : Change} {c : Com} → Asserts g k → Says m c → gives m ≡ [] → Takes (record { guard = g; change = m }) (Assert k ∷ c ∷ [])
 
 -- One of the commands raises a pointer race. All are looked at before the first is done, as document 01 does: that is the same for
 -- the command after an assertion, which changes neither the heap nor what is valid.
 abbrev pub RaceIn : (PExp → Bool) → List Com → Type 0
 RaceIn valid [] = ⊥
 RaceIn valid (c ∷ cs) = PointerRace valid c ⊎ RaceIn valid cs
-
--- the pointers of which Definition 2 speaks, command by command; and that v is the first of some pointers that is not valid
-abbrev pub contained_in : List Com → List ℕ
-contained_in [] = []
-contained_in (c ∷ cs) = contained c ++ contained_in cs
-
-abbrev pub FirstNotValid : (PExp → Bool) → List ℕ → ℕ → Type 0
-FirstNotValid valid [] v = ⊥
-FirstNotValid valid (p ∷ ps) v = (NotValid valid p × (p ≡ v)) ⊎ ((valid (pointer_var p) ≡ true) × FirstNotValid valid ps v)
 
 -- ---- a log as a computation
 -- the fields that pass, up to the first that does not
@@ -157,12 +148,12 @@ Steps thread named τ (c ∷ cs) σ =
 -- σ is τ followed by the commands of some fields, each by the field's thread
 abbrev pub Extends : Computation → List Field → Computation → Type 0
 Extends τ [] σ = τ ≡ σ
-Extends τ (f ∷ fs) σ = (cs : List Com) × (ρ : Computation) × Means (act_of f) cs × Steps f.thread (gives (act_of f).change) τ cs ρ × Extends ρ fs σ
+Extends τ (f ∷ fs) σ = (cs : List Com) × (ρ : Computation) × Takes (act_of f) cs × Steps f.thread (gives (act_of f).change) τ cs ρ × Extends ρ fs σ
 
--- with these fields τ becomes a computation of the memory-managed semantics that has no pointer race, and the state s agrees with it
+-- with these fields τ becomes a computation of the memory-managed semantics that has no pointer race, and that shows in the state s
 pub record Computed (τ : Computation) (fs : List Field) (s : State) : Type 0 where
   pub computation : Computation
-  pub means : Extends τ fs computation
+  pub takes : Extends τ fs computation
   pub managed : MemoryManaged computation
   pub race_free : RaceFree computation
-  pub agrees : Agrees s computation
+  pub shows : Shows s computation

@@ -1,6 +1,6 @@
 -- `show::part_in` meets its contract.
 use Prim.Native.Nat.{◌+◌, ◌-◌, ℕ}
-use Rattle.show.proofs.Seeking.{inside}
+use Rattle.show.proofs.Seeking.{within}
 use borrow.Author.Rules.{rules}
 use lib.ListN.{drop, take}
 use mathlib.Core.Path.{◌≡◌, ◌∙◌, ap, refl, sym}
@@ -19,7 +19,7 @@ add-result c =
     let at = c.before.at.given.0.0 in
     let size = c.before.at.given.0.1.0 in
     let told = sym c.before.before.before.answer-in.ensures ∙ c.before.at.given.1 in
-    let w = inside c.before.before.before.before.before.args.log.now c.before.before.before.before.before.args.number at size told in
+    let w = within c.before.before.before.before.before.args.log.now c.before.before.before.before.before.args.number at size told in
     omega (arith, w.fits, w.small)
 
 sub-result : tie.Need-overflow-sub-result
@@ -33,7 +33,7 @@ part-result-end c =
     let at = c.before.at.given.0.0 in
     let size = c.before.at.given.0.1.0 in
     let told = sym c.before.before.before.answer-in.ensures ∙ c.before.at.given.1 in
-    let w = inside c.before.before.before.before.before.args.log.now c.before.before.before.before.before.args.number at size told in
+    let w = within c.before.before.before.before.before.args.log.now c.before.before.before.before.before.args.number at size told in
     omega (arith, w.fits)
 
 enum_told : tie.Need-enum-told
@@ -47,7 +47,7 @@ returns c =
     let at = c.before.before.at.given.0.0 in
     let size = c.before.before.at.given.0.1.0 in
     let told = sym c.before.before.before.before.answer-in.ensures ∙ c.before.before.at.given.1 in
-    let w = inside c.before.before.before.before.before.before.args.log.now c.before.before.before.before.before.before.args.number at size told in
+    let w = within c.before.before.before.before.before.before.args.log.now c.before.before.before.before.before.before.args.number at size told in
     let all : at + size - at ≡ size = omega arith in
     rw told (ap (λ (n : ℕ). take n (drop at c.before.before.before.before.before.before.args.log.now)) all)
 

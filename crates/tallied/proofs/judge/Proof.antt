@@ -41,7 +41,6 @@ use denote.Triple.Clauses.{ensured, lasts}
 use denote.Triple.Walked.{says, Stays, stay_ref, stay_none_slice, gave_slice, walk_of, AllGo, Goes-none_slice, Goes-gave_slice, Goes-ref, Walks, ends_at, walked, walk_Meets}
 use denote.Exit.{yes}
 use Rattle.judge.specs.Judges.{Judges}
-use Rattle.rules.specs.Judging.{lent}
 use Rattle.rules.specs.declared.Tally.{Tally}
 use Rattle.judge.specs.declared.Judged.{Judged}
 use Rattle.rules.specs.contracts.Tally as T
@@ -115,7 +114,7 @@ module _ {M : Type 1} {𝓤 : Ura M} (𝓛 : Logic 𝓤) (mem' : Memory → SPro
   goes-core : ent 𝓤 (⋆ 𝓛 ((‵ (flft κ0 q0) ⊛ ‵ (flft κ1 q1) ⊛ ‵ (flft κ2 q2) ⊛ ‵ (flft κ3 q3) ⊛ ‵ (flft κ4 q4) ⊛ ‵ (flft κ5 q5) ⊛ ‵ ftrue) ∷ ‵ (owns (ShrSlice (named 0) κ0 u8 ∷ MutSlice (named 1) κ1 u16 ∷ MutSlice (named 2) κ2 u16 ∷ MutSlice (named 3) κ3 u32 ∷ MutSlice (named 4) κ4 u32 ∷ MutSlice (named 5) κ5 u8 ∷ T.the_row ∷ []) core-x core_at) ∷ [])) ((Core 𝓛 mem' run).pre to-core)
   goes-core = qed 𝓛 ((‵ (flft κ0 q0) ⊛ ‵ (flft κ1 q1) ⊛ ‵ (flft κ2 q2) ⊛ ‵ (flft κ3 q3) ⊛ ‵ (flft κ4 q4) ⊛ ‵ (flft κ5 q5) ⊛ ‵ ftrue) ∷ ‵ (owns (ShrSlice (named 0) κ0 u8 ∷ MutSlice (named 1) κ1 u16 ∷ MutSlice (named 2) κ2 u16 ∷ MutSlice (named 3) κ3 u32 ∷ MutSlice (named 4) κ4 u32 ∷ MutSlice (named 5) κ5 u8 ∷ T.the_row ∷ []) core-x core_at) ∷ []) ∵ join ! $ frame ! $ done !
 
-  exits : (r : Judged) (zpointers : List ℕ) (zselectors : List ℕ) (zvariables : List ℕ) (znumbers : List ℕ) (zstatus : List ℕ) → Judges rlog.now (lent rpointers.now rselectors.now rvariables.now rnumbers.now rstatus.now h) r.verdict (lent zpointers zselectors zvariables znumbers zstatus r.tally) → length zpointers ≡ length rpointers.now → length zselectors ≡ length rselectors.now → length zvariables ≡ length rvariables.now → length znumbers ≡ length rnumbers.now → length zstatus ≡ length rstatus.now
+  exits : (r : Judged) (zpointers : List ℕ) (zselectors : List ℕ) (zvariables : List ℕ) (znumbers : List ℕ) (zstatus : List ℕ) → Judges rlog.now rpointers.now rselectors.now rvariables.now rnumbers.now rstatus.now h r.verdict r.tally zpointers zselectors zvariables znumbers zstatus → length zpointers ≡ length rpointers.now → length zselectors ≡ length rselectors.now → length zvariables ≡ length rvariables.now → length znumbers ≡ length rnumbers.now → length zstatus ≡ length rstatus.now
       → ent 𝓤 (⋆ 𝓛 (‵ (flft κ0 q0) ∷ ‵ (flft κ1 q1) ∷ ‵ (flft κ2 q2) ∷ ‵ (flft κ3 q3) ∷ ‵ (flft κ4 q4) ∷ ‵ (flft κ5 q5) ∷ ‵ (flft κ6 q6) ∷ ‵ (fobs γ ((T.the_row).coded.code r.tally)) ∷ ‵ (fbor κ6 (Body (mem T.the_row) b o γ)) ∷ ‵ ((ShrSlice (named 0) κ0 u8).own_val rlog (slog ∷ [])) ∷ ‵ (finally u16 rpointers.name zpointers) ∷ ‵ (finally u16 rselectors.name zselectors) ∷ ‵ (finally u32 rvariables.name zvariables) ∷ ‵ (finally u32 rnumbers.name znumbers) ∷ ‵ (finally u8 rstatus.name zstatus) ∷ ‵ ((Enm.the_row).own_val r.verdict (EL.val Enm.the_type Enm'.the_laws r.verdict ∷ [])) ∷ [])) (Post (EL.val Enm.the_type Enm'.the_laws r.verdict))
   exits r zpointers zselectors zvariables znumbers zstatus e lpointers lselectors lvariables lnumbers lstatus =
       qed 𝓛 (‵ (flft κ0 q0) ∷ ‵ (flft κ1 q1) ∷ ‵ (flft κ2 q2) ∷ ‵ (flft κ3 q3) ∷ ‵ (flft κ4 q4) ∷ ‵ (flft κ5 q5) ∷ ‵ (flft κ6 q6) ∷ ‵ (fobs γ ((T.the_row).coded.code r.tally)) ∷ ‵ (fbor κ6 (Body (mem T.the_row) b o γ)) ∷ ‵ ((ShrSlice (named 0) κ0 u8).own_val rlog (slog ∷ [])) ∷ ‵ (finally u16 rpointers.name zpointers) ∷ ‵ (finally u16 rselectors.name zselectors) ∷ ‵ (finally u32 rvariables.name zvariables) ∷ ‵ (finally u32 rnumbers.name znumbers) ∷ ‵ (finally u8 rstatus.name zstatus) ∷ ‵ ((Enm.the_row).own_val r.verdict (EL.val Enm.the_type Enm'.the_laws r.verdict ∷ [])) ∷ []) ∵
@@ -142,8 +141,8 @@ module _ {M : Type 1} {𝓤 : Ura M} (𝓛 : Logic 𝓤) (mem' : Memory → SPro
         nothing ! $ move ! (1 ∷ 0 ∷ []) $ fjoin ! $ move ! (13 ∷ 0 ∷ []) $ fjoin ! $ move ! (13 ∷ 0 ∷ []) $ fjoin ! $ move ! (13 ∷ 0 ∷ []) $ fjoin ! $ move ! (13 ∷ 0 ∷ []) $ fjoin ! $ move ! (13 ∷ 0 ∷ []) $ fjoin ! $ move ! (5 ∷ 0 ∷ []) $ fjoin ! $ nothing ! $ move ! (7 ∷ 0 ∷ []) $ join ! $ move ! (7 ∷ 0 ∷ []) $ join ! $ move ! (7 ∷ 0 ∷ []) $ join ! $ move ! (7 ∷ 0 ∷ []) $ join ! $ move ! (7 ∷ 0 ∷ []) $ join ! $ move ! (7 ∷ 0 ∷ []) $ join ! $ use2 𝓛 (raw ((Core 𝓛 mem' run).pre to-core)) goes-core $
         calls_at ! fm (Core 𝓛 mem' run) known to-core (and_then ! (load ! (from ! (stop !)) (look ! 42 refl)) (and_then ! (load ! (from ! (stop !)) (look ! 24 refl)) (and_then ! (load ! (from ! (stop !)) (look ! 20 refl)) (and_then ! (load ! (from ! (stop !)) (look ! 16 refl)) (and_then ! (load ! (from ! (stop !)) (look ! 12 refl)) (and_then ! (load ! (from ! (stop !)) (look ! 8 refl)) (and_then ! (load ! (from ! (stop !)) (look ! 6 refl)) (no_more !)))))))) (λ v.
         use1 𝓛 (later (some (λ (r : Judged). ((‵ (flft κ0 q0) ⊛ ‵ (flft κ1 q1) ⊛ ‵ (flft κ2 q2) ⊛ ‵ (flft κ3 q3) ⊛ ‵ (flft κ4 q4) ⊛ ‵ (flft κ5 q5) ⊛ ‵ ftrue) ⊛ ‵ ((Ans.the_row).own_val r (v ∷ []))) ⊛ raw (ensured 𝓛 callee.ended (callee.clauses 𝓛 mem' run) (κ0, (κ1, (κ2, (κ3, (κ4, (κ5, tt)))))) core-x tt r)))) (id⊢ 𝓤 _) $ await ! tt $ pick ! (λ r.
-        split ! $ move ! (1 ∷ []) $ use1 𝓛 (some (λ (zs : (Unit {0} × (List ℕ × (List ℕ × (List ℕ × (List ℕ × (List ℕ × (Unit {0} × Unit {0})))))))). ‵ (lasts callee.ended (κ0, (κ1, (κ2, (κ3, (κ4, (κ5, tt)))))) core-x zs) ⊛ raw (fact 𝓤 (Judges rlog.now (lent rpointers.now rselectors.now rvariables.now rnumbers.now rstatus.now h) r.verdict (lent zs.1.0 zs.1.1.0 zs.1.1.1.0 zs.1.1.1.1.0 zs.1.1.1.1.1.0 r.tally))))) (id⊢ 𝓤 _) $ pick ! (λ zs.
-        split ! $ move ! (1 ∷ []) $ heard ! (Judges rlog.now (lent rpointers.now rselectors.now rvariables.now rnumbers.now rstatus.now h) r.verdict (lent zs.1.0 zs.1.1.0 zs.1.1.1.0 zs.1.1.1.1.0 zs.1.1.1.1.1.0 r.tally)) (λ e.
+        split ! $ move ! (1 ∷ []) $ use1 𝓛 (some (λ (zs : (Unit {0} × (List ℕ × (List ℕ × (List ℕ × (List ℕ × (List ℕ × (Unit {0} × Unit {0})))))))). ‵ (lasts callee.ended (κ0, (κ1, (κ2, (κ3, (κ4, (κ5, tt)))))) core-x zs) ⊛ raw (fact 𝓤 (Judges rlog.now rpointers.now rselectors.now rvariables.now rnumbers.now rstatus.now h r.verdict r.tally zs.1.0 zs.1.1.0 zs.1.1.1.0 zs.1.1.1.1.0 zs.1.1.1.1.1.0)))) (id⊢ 𝓤 _) $ pick ! (λ zs.
+        split ! $ move ! (1 ∷ []) $ heard ! (Judges rlog.now rpointers.now rselectors.now rvariables.now rnumbers.now rstatus.now h r.verdict r.tally zs.1.0 zs.1.1.0 zs.1.1.1.0 zs.1.1.1.1.0 zs.1.1.1.1.1.0) (λ e.
         fsplit ! $ drop ! $ fsplit ! $ fsplit ! $ move ! (1 ∷ []) $
         feq_l ! (λ lpointers.
         move ! (1 ∷ []) $ fsplit ! $ fsplit ! $ move ! (1 ∷ []) $

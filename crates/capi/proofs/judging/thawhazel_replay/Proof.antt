@@ -1,6 +1,5 @@
 -- `capi::judging::thawhazel_replay` meets its contract.
-use Rattle.capi.proofs.Calls.{replay-no-room, replay-told, room, tally_told}
-use Rattle.capi.specs.Judging.{given}
+use Rattle.capi.proofs.Calls.{replay-no-room, replay-told, room}
 use borrow.Author.Rules.{rules}
 use mathlib.Core.Path.{◌∙◌, sym}
 use Rattle.capi.proofs.judging.thawhazel_replay.Statement.{statement}
@@ -46,11 +45,8 @@ returns : tie.Need-returns
 returns c =
     let a = c.before.before.before.before.before.before.before.before.before.before.before.before.before.before.before.before.before.before.before.before.before.before.before.before.before.before.before.before.before.before.before.before.before.before.before.before.before.before.before.before.before.args in
     let room = sym c.before.before.before.before.before.before.before.before.before.before.before.before.before.before.before.before.before.before.before.before.before.before.before.before.before.before.before.before.before.has_room.ensures ∙ c.before.before.before.before.before.before.before.before.before.before.before.before.before.before.before.before.before.before.before.before.before.before.before.before.before.before.before.before.if1.true in
-    let judging = c.before.before.before.before.before.before.before.before.before.before.before.before.before.before.before.before.before.before.before.replay-log in
-    let telling = c.before.before.before.before.tell in
-    let g = given a.pointers.now a.selectors.now a.variables.now a.numbers.now a.status.now a.tally.now a.answer.now in
-    rw (tally_told judging.result.tally a.tally.now _ telling.ensures.done)
-    (replay-told a.log.now g a.out.now room judging.result.verdict _ _ telling.result _ _ (rw c.before.before.before.before.before.before.before.before.before.before.before.before.before.before.before.before.before.before.before.before.before.before.before.before.before.before.tally-in.ensures at judging.ensures) telling.ensures)
+    let judged = c.before.before.before.before.before.before.before.before.before.before.before.before.before.before.before.before.before.before.before.replay-log.result in
+    replay-told a.log.now a.out.now a.pointers.now a.selectors.now a.variables.now a.numbers.now a.status.now a.tally.now a.answer.now room c.before.before.before.before.before.before.before.before.before.before.before.before.before.before.before.before.before.before.before.before.before.before.before.before.before.before.tally-in.result judged.tally judged.verdict c.before.before.before.before.tell.result _ _ _ _ _ _ _ _ c.before.before.before.before.before.before.before.before.before.before.before.before.before.before.before.before.before.before.before.before.before.before.before.before.before.before.tally-in.ensures c.before.before.before.before.before.before.before.before.before.before.before.before.before.before.before.before.before.before.before.replay-log.ensures c.before.before.before.before.tell.ensures
 
 same-length-9 : tie.Need-same-length-9
 same-length-9 c = search rules
@@ -61,8 +57,7 @@ same-length-10 c = search rules
 returns-2 : tie.Need-returns-2
 returns-2 c =
     let a = c.before.before.before.before.before.before.before.before.before.before.before.before.before.args in
-    let g = given a.pointers.now a.selectors.now a.variables.now a.numbers.now a.status.now a.tally.now a.answer.now in
-    replay-no-room a.log.now g a.out.now (sym c.before.has_room.ensures ∙ c.if1.false)
+    replay-no-room a.log.now a.out.now a.pointers.now a.selectors.now a.variables.now a.numbers.now a.status.now a.tally.now a.answer.now (sym c.before.has_room.ensures ∙ c.if1.false)
 
 pub thawhazel-replay-spec : {M : Type 1} → statement M
 thawhazel-replay-spec =

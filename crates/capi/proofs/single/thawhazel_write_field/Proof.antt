@@ -1,6 +1,6 @@
 -- `capi::single::thawhazel_write_field` meets its contract.
 use Prim.Native.Nat.{ℕ}
-use Rattle.capi.proofs.OneField.{few_bytes, write_bytes, write-no-answer, write-no-field, write-stopped, write-told}
+use Rattle.capi.proofs.OneField.{few_bytes, write_bytes, write-no-answer, write-no-field, write-refused, write-told}
 use Rattle.capi.specs.Fields.{write_left}
 use borrow.Author.Rules.{rules}
 use mathlib.Core.Path.{◌∙◌, ap}
@@ -78,7 +78,7 @@ returns-4 : tie.Need-returns-4
 returns-4 c =
     let a = c.before.before.before.before.before.before.before.before.before.before.before.before.before.before.args in
     let told = write-told a.field.now a.out.now a.answer.now c.before.before.before.before.before.before.before.before.before.before.if1.false c.before.before.before.before.before.before.before.before.before.if2.false c.before.before.before.before.before.before.before.before.field_in.result c.before.before.before.before.before.before.write-field.result _ c.before.before.before.before.before.before.before.before.field_in.ensures c.before.before.before.before.before.before.write-field.ensures in
-    write-stopped a.field.now a.out.now a.answer.now c.before.before.before.before.before.before.write-field.result _ _ _ c.before.before.why.given.1 c.number3.ensures told
+    write-refused a.field.now a.out.now a.answer.now c.before.before.before.before.before.before.write-field.result _ _ _ c.before.before.why.given.1 c.number3.ensures told
 
 pub thawhazel-write-field-spec : {M : Type 1} → statement M
 thawhazel-write-field-spec =

@@ -1,7 +1,7 @@
 -- `fields::reader::read_field` meets its contract.
 use Rattle.fields.proofs.Framing.{checked, read_framed, read_unframed, whole}
 use Rattle.fields.specs.Read.{placed}
-use Rattle.fields.specs.Rows.{length_by}
+use Rattle.fields.specs.Rows.{length_of}
 use borrow.Author.Rules.{rules}
 use mathlib.Core.Path.{◌∙◌, ap, sym}
 use Rattle.fields.proofs.reader.read_field.Statement.{statement}
@@ -20,7 +20,7 @@ value-of-requires : tie.Need-value-of-requires
 value-of-requires c κs = (whole c.before.before.before.before.before.before.args.part.now c.before.before.tag.given.0.0 (sym c.before.before.before.before.frame-of.ensures ∙ c.before.before.tag.given.1)).header
 
 field-of-requires : tie.Need-field-of-requires
-unfolding length_by
+unfolding length_of
 field-of-requires c κs = rw (c.before.row_of.ensures, c.value_of_lem.ensures) (whole c.before.before.before.before.before.before.before.args.part.now c.before.before.before.tag.given.0.0 (sym c.before.before.before.before.before.frame-of.ensures ∙ c.before.before.before.tag.given.1)).value
 
 check-value-requires : tie.Need-check-value-requires

@@ -1,5 +1,5 @@
 -- `fields::writer::put_field` meets its contract.
-use Rattle.fields.specs.Rows.{widths_by}
+use Rattle.fields.specs.Rows.{widths_of}
 use borrow.Author.Rules.{rules}
 use native.Mathlib.Omega.{arith}
 use Rattle.fields.proofs.writer.put_field.Statement.{statement}
@@ -39,14 +39,14 @@ cast-t23 : tie.Need-overflow-cast-t23
 cast-t23 c = search rules
 
 put-all-requires : tie.Need-put-all-requires
-unfolding widths_by
+unfolding widths_of
 put-all-requires c κs = omega (arith, c.before.before.before.before.before.before.before.before.before.before.before.before.before.requires)
 
 same_length : tie.Need-same-length
 same_length c = search rules
 
 returns : tie.Need-returns
-unfolding widths_by
+unfolding widths_of
 returns c =
     rw (
       c.before.before.put_all_lem.ensures,

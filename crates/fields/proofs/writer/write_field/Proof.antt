@@ -1,6 +1,6 @@
 -- `fields::writer::write_field` meets its contract.
 use Rattle.fields.proofs.Writing.{room-enough, room-short, settled, write_checked, write-unknown}
-use Rattle.fields.specs.Rows.{length_by}
+use Rattle.fields.specs.Rows.{length_of}
 use borrow.Author.Rules.{rules}
 use mathlib.Core.Path.{◌∙◌, ap, sym}
 use native.Mathlib.Omega.{arith}
@@ -37,7 +37,7 @@ returns c =
     ∙ write_checked f out c.before.before.before.before.before.row_of.result c.before.before.before.before.check-value.result (sym c.before.before.before.before.before.before.before.is-tag.ensures ∙ c.before.before.before.before.before.before.if1.true) c.before.before.before.before.before.row_of.ensures c.before.before.before.before.check-value.ensures
 
 put-field-requires : tie.Need-put-field-requires
-unfolding length_by
+unfolding length_of
 put-field-requires c κs = rw c.before.before.before.before.before.before.row_of.ensures (omega arith)
 
 same_length : tie.Need-same-length

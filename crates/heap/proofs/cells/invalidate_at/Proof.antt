@@ -16,7 +16,7 @@ same_length : tie.Need-same-length
 same_length c = search rules
 
 returns : tie.Need-returns
-returns c = rw (c.before.before.set_word.ensures, c.before.before.before.before.invalidate.ensures, c.before.before.before.before.before.word_at.ensures)
+returns c = cc
 
 pub invalidate-at-spec : {M : Type 1} → statement M
 invalidate-at-spec =

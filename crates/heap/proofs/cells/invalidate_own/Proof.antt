@@ -19,7 +19,7 @@ same_length : tie.Need-same-length
 same_length c = search rules
 
 returns : tie.Need-returns
-returns c = rw (c.before.before.invalidate-at2.ensures, c.before.before.before.before.before.before.invalidate-at.ensures)
+returns c = cc
 
 pub invalidate-own-spec : {M : Type 1} → statement M
 invalidate-own-spec =

@@ -19,7 +19,7 @@ same_length : tie.Need-same-length
 same_length c = search rules
 
 returns : tie.Need-returns
-returns c = rw (c.before.before.set-word2.ensures, c.before.before.before.before.before.before.set_word.ensures)
+returns c = cc
 
 pub unset-own-spec : {M : Type 1} → statement M
 unset-own-spec =

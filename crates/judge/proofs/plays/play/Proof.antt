@@ -1,12 +1,9 @@
 -- `judge::plays::play` meets its contract.
-use Rattle.checks.proofs.Answers.{through-looks}
-use Rattle.effects.specs.Held.{hold}
+use Rattle.heap.specs.Boards.{board_of}
+use Rattle.judge.proofs.Answers.{through_looks}
 use Rattle.judge.proofs.Steps.{play_kind, play-on, play-stop}
-use Rattle.judge.specs.Steps.{tallied}
-use Rattle.rules.specs.Effect.{count_field}
-use Rattle.rules.specs.State.{with_data, with_status, with_words}
-use mathlib.Core.Path.{ap, refl}
-use borrow.Author.Rules.{rules}
+use Rattle.rules.specs.State.{state_of}
+use Rattle.std.proofs.Common.{refl, ◌∙◌, rules}
 use Rattle.judge.proofs.plays.play.Statement.{statement}
 use Rattle.judge.proofs.plays.play.Tie as tie
 
@@ -14,25 +11,25 @@ enum_told : tie.Need-enum-told
 enum_told c = search rules
 
 play-assertion-requires : tie.Need-play-assertion-requires
-play-assertion-requires c κs = search rules
+play-assertion-requires c κs = c.before.before.before.before.before.before.before.before.before.requires.0.0
 
 enum-known-change : tie.Need-enum-known-change
 enum-known-change c = search rules
 
 play-malloc-requires : tie.Need-play-malloc-requires
-play-malloc-requires c κs = search rules
+play-malloc-requires c κs = c.before.before.before.before.before.before.before.before.before.before.before.before.before.requires
 
 enum-known-change-2 : tie.Need-enum-known-change-2
 enum-known-change-2 c = search rules
 
 play-free-requires : tie.Need-play-free-requires
-play-free-requires c κs = search rules
+play-free-requires c κs = (c.before.before.before.before.before.before.before.before.before.before.before.before.requires.0.0, c.before.before.before.before.before.before.before.before.before.before.before.before.requires.1)
 
 enum-known-change-3 : tie.Need-enum-known-change-3
 enum-known-change-3 c = search rules
 
 play-move-requires : tie.Need-play-move-requires
-play-move-requires c κs = search rules
+play-move-requires c κs = c.before.before.before.before.before.before.before.before.before.before.before.requires.0.0
 
 enum-known-change-4 : tie.Need-enum-known-change-4
 enum-known-change-4 c = search rules
@@ -56,7 +53,7 @@ put-number-requires : tie.Need-put-number-requires
 put-number-requires c κs = search rules
 
 count-field-requires : tie.Need-count-field-requires
-count-field-requires c κs = search rules
+count-field-requires c κs = c.before.before.before.before.before.before.before.before.before.before.before.before.before.before.before.before.before.before.before.before.before.before.before.before.before.requires.0.0
 
 same_length : tie.Need-same-length
 same_length c = search rules
@@ -68,16 +65,16 @@ same-length-3 : tie.Need-same-length-3
 same-length-3 c = search rules
 
 returns : tie.Need-returns
-unfolding count_field
 returns c =
-    let a = c.before.before.before.before.before.before.before.before.before.before.before.before.before.before.before.before.before.before.before.before.before.before.before.before.before.before.args in
-    let to = c.before.before.before.before.before.before.before.before.before.before.before.before.before.before.before.before.data-through in
-    let from = c.before.before.before.before.before.before.before.before.before.before.before.before.before.before.before.value-through in
-    let passed = through-looks a.pointers.now to.result from.result _ _ _ to.ensures from.ensures c.before.before.before.before.before.before.before.before.before.before.before.before.before.before.check-through.ensures in
-    rw c.count-field.ensures (λ s.
-    let h = tallied a.tally (with_words a.pointers.now a.selectors.now (with_data a.variables.now a.numbers.now (with_status a.status.now s))) in
-    play_kind a.act _ h _ c.before.before.before.before.before.before.before.before.before.before.before.before.before.before.before.before.before.before.before.change4.given.1
-    (play-on a.act.guard _ h _ _ refl passed c.before.before.before.before.before.before.before.before.before.before.before.check-guard.ensures _ c.before.before.before.before.before.before.before.before.before.before.goes.ensures _ c.before.before.before.before.before.before.before.before.before.if1.true (ap (hold a.tally.live) (c.before.before.before.before.before.put-number.ensures h.state))))
+    let start = c.before.before.before.before.before.before.before.before.before.before.before.before.before.before.before.before.before.before.before.before.before.before.before.before.before.before in
+    let a = start.args in
+    let s = state_of (board_of a.pointers.now a.variables.now) a.tally a.selectors.now a.numbers.now a.status.now in
+    let passed = through_looks a.pointers.now c.before.before.before.before.before.before.before.before.before.before.before.before.before.before.before.before.data-through.result c.before.before.before.before.before.before.before.before.before.before.before.before.before.before.before.value-through.result _ _ _ c.before.before.before.before.before.before.before.before.before.before.before.before.before.before.before.before.data-through.ensures c.before.before.before.before.before.before.before.before.before.before.before.before.before.before.before.value-through.ensures c.before.before.before.before.before.before.before.before.before.before.before.before.before.before.check-through.ensures in
+    let put = c.before.before.before.before.before.put-number.ensures a.tally a.selectors.now a.status.now in
+    rw c.count-field.ensures (
+      play_kind a.act _ s _ c.before.before.before.before.before.before.before.before.before.before.before.before.before.before.before.before.before.before.before.change4.given.1 (play-on a.act.guard _ s _ _ refl passed c.before.before.before.before.before.before.before.before.before.before.before.check-guard.ensures _ c.before.before.before.before.before.before.before.before.before.before.goes.ensures _ c.before.before.before.before.before.before.before.before.before.if1.true put),
+      record { kept = start.requires.1.kept; few = start.requires.1.few },
+    )
 
 same-length-4 : tie.Need-same-length-4
 same-length-4 c = search rules
@@ -87,10 +84,13 @@ same-length-5 c = search rules
 
 returns-2 : tie.Need-returns-2
 returns-2 c =
-    let a = c.before.before.before.before.before.before.before.before.before.before.args in
-    λ s.
-    let h = tallied a.tally (with_words a.pointers.now a.selectors.now (with_data a.variables.now a.numbers.now (with_status a.status.now s))) in
-    play_kind a.act _ h _ c.before.before.before.enum_told.given.1 (c.play-assertion.ensures h.state)
+    let start = c.before.before.before.before.before.before.before.before.before.before in
+    let a = start.args in
+    let s = state_of (board_of a.pointers.now a.variables.now) a.tally a.selectors.now a.numbers.now a.status.now in
+    let played = c.play-assertion.ensures in (
+      play_kind a.act _ s _ c.before.before.before.enum_told.given.1 (played.0 a.selectors.now a.numbers.now a.status.now),
+      record { kept = played.1 ∙ start.requires.1.kept; few = start.requires.1.few },
+    )
 
 same-length-6 : tie.Need-same-length-6
 same-length-6 c = search rules
@@ -110,9 +110,9 @@ same-length-10 c = search rules
 returns-3 : tie.Need-returns-3
 returns-3 c =
     let a = c.before.before.before.before.before.before.before.before.before.before.before.before.before.before.before.before.before.before.before.before.before.before.args in
-    λ s.
-    let h = tallied a.tally (with_words a.pointers.now a.selectors.now (with_data a.variables.now a.numbers.now (with_status a.status.now s))) in
-    play_kind a.act _ h _ c.before.before.before.before.before.before.before.before.before.before.before.before.before.before.before.change.given.1 (c.before.before.before.before.before.before.before.before.play-malloc.ensures h.state)
+    let s = state_of (board_of a.pointers.now a.variables.now) a.tally a.selectors.now a.numbers.now a.status.now in
+    let played = c.before.before.before.before.before.before.before.before.play-malloc.ensures in
+    (play_kind a.act _ s _ c.before.before.before.before.before.before.before.before.before.before.before.before.before.before.before.change.given.1 played.0, played.1)
 
 same-length-11 : tie.Need-same-length-11
 same-length-11 c = search rules
@@ -129,9 +129,9 @@ same-length-14 c = search rules
 returns-4 : tie.Need-returns-4
 returns-4 c =
     let a = c.before.before.before.before.before.before.before.before.before.before.before.before.before.before.before.before.before.before.before.args in
-    λ s.
-    let h = tallied a.tally (with_words a.pointers.now a.selectors.now (with_data a.variables.now a.numbers.now (with_status a.status.now s))) in
-    play_kind a.act _ h _ c.before.before.before.before.before.before.before.before.before.before.before.before.change2.given.1 (c.before.before.before.before.before.before.play-free.ensures h.state)
+    let s = state_of (board_of a.pointers.now a.variables.now) a.tally a.selectors.now a.numbers.now a.status.now in
+    let played = c.before.before.before.before.before.before.play-free.ensures in
+    (play_kind a.act _ s _ c.before.before.before.before.before.before.before.before.before.before.before.before.change2.given.1 (played.0 a.numbers.now), played.1)
 
 same-length-15 : tie.Need-same-length-15
 same-length-15 c = search rules
@@ -144,10 +144,13 @@ same-length-17 c = search rules
 
 returns-5 : tie.Need-returns-5
 returns-5 c =
-    let a = c.before.before.before.before.before.before.before.before.before.before.before.before.before.before.before.before.args in
-    λ s.
-    let h = tallied a.tally (with_words a.pointers.now a.selectors.now (with_data a.variables.now a.numbers.now (with_status a.status.now s))) in
-    play_kind a.act _ h _ c.before.before.before.before.before.before.before.before.before.change3.given.1 (c.before.before.before.before.play-move.ensures h.state)
+    let start = c.before.before.before.before.before.before.before.before.before.before.before.before.before.before.before.before in
+    let a = start.args in
+    let s = state_of (board_of a.pointers.now a.variables.now) a.tally a.selectors.now a.numbers.now a.status.now in
+    let played = c.before.before.before.before.play-move.ensures in (
+      play_kind a.act _ s _ c.before.before.before.before.before.before.before.before.before.change3.given.1 (played.0 a.numbers.now a.status.now),
+      record { kept = played.1 ∙ start.requires.1.kept; few = start.requires.1.few },
+    )
 
 same-length-18 : tie.Need-same-length-18
 same-length-18 c = search rules
@@ -157,14 +160,11 @@ same-length-19 c = search rules
 
 returns-6 : tie.Need-returns-6
 returns-6 c =
-    let a = c.before.before.before.before.before.before.before.before.before.before.before.before.before.before.before.before.before.args in
-    let to = c.before.before.before.before.before.before.before.data-through in
-    let from = c.before.before.before.before.before.before.value-through in
-    let passed = through-looks a.pointers.now to.result from.result _ _ _ to.ensures from.ensures c.before.before.before.before.before.check-through.ensures in
-    λ s.
-    let h = tallied a.tally (with_words a.pointers.now a.selectors.now (with_data a.variables.now a.numbers.now (with_status a.status.now s))) in
-    play_kind a.act _ h _ c.before.before.before.before.before.before.before.before.before.before.change4.given.1
-    (play-stop a.act.guard _ h _ _ refl passed c.before.before.check-guard.ensures _ c.before.goes.ensures c.if1.false)
+    let start = c.before.before.before.before.before.before.before.before.before.before.before.before.before.before.before.before.before in
+    let a = start.args in
+    let s = state_of (board_of a.pointers.now a.variables.now) a.tally a.selectors.now a.numbers.now a.status.now in
+    let passed = through_looks a.pointers.now c.before.before.before.before.before.before.before.data-through.result c.before.before.before.before.before.before.value-through.result _ _ _ c.before.before.before.before.before.before.before.data-through.ensures c.before.before.before.before.before.before.value-through.ensures c.before.before.before.before.before.check-through.ensures in
+    (play_kind a.act _ s _ c.before.before.before.before.before.before.before.before.before.before.change4.given.1 (play-stop a.act.guard _ s _ _ refl passed c.before.before.check-guard.ensures _ c.before.goes.ensures c.if1.false), start.requires.1)
 
 pub play-spec : {M : Type 1} → statement M
 play-spec =

@@ -1,11 +1,10 @@
 -- `judge::plays::play_free` meets its contract.
+use Rattle.heap.specs.Boards.{board_of}
 use Rattle.judge.proofs.Steps.{play-on, play-stop}
-use Rattle.judge.specs.Steps.{tallied}
+use Rattle.rules.proofs.Tallies.{fields_kept}
 use Rattle.rules.specs.declared.Change.TheVariants.{Release}
-use Rattle.rules.specs.Effect.{count_field}
-use Rattle.rules.specs.State.{with_status, with_tally, with_variables, with_words}
-use mathlib.Core.Path.{refl}
-use borrow.Author.Rules.{rules}
+use Rattle.rules.specs.State.{state_of}
+use Rattle.std.proofs.Common.{[], refl, arith, rules}
 use Rattle.judge.proofs.plays.play_free.Statement.{statement}
 use Rattle.judge.proofs.plays.play_free.Tie as tie
 
@@ -19,10 +18,13 @@ goes-requires : tie.Need-goes-requires
 goes-requires c κs = search rules
 
 release-requires : tie.Need-release-requires
-release-requires c κs = search rules
+release-requires c κs = c.before.before.before.before.before.before.before.before.before.before.before.before.requires.1
 
 count-field-requires : tie.Need-count-field-requires
-count-field-requires c κs = search rules
+count-field-requires c κs =
+    let a = c.before.before.before.before.before.before.before.before.before.before.before.before.before.before.before.before.before.before.before.args in
+    let s = state_of (board_of a.pointers.now a.variables.now) a.tally a.selectors.now [] a.status.now in
+    omega (arith, fields_kept (Release a.p) s _ (c.before.before.before.before.before.before.release.ensures.0 a.variables.now []), c.before.before.before.before.before.before.before.before.before.before.before.before.before.before.before.before.before.before.before.requires.0)
 
 same_length : tie.Need-same-length
 same_length c = search rules
@@ -34,22 +36,27 @@ same-length-3 : tie.Need-same-length-3
 same-length-3 c = search rules
 
 returns : tie.Need-returns
-unfolding count_field
 returns c =
     let a = c.before.before.before.before.before.before.before.before.before.before.before.before.before.before.before.before.before.before.before.before.args in
-    rw c.count-field.ensures (λ s.
-    let h = tallied a.tally (with_words a.pointers.now a.selectors.now (with_variables a.variables.now (with_status a.status.now s))) in
-    play-on a.guard (Release a.p) h _ _ refl c.before.before.before.before.before.before.before.before.before.before.before.before.before.before.race-at.ensures c.before.before.before.before.before.before.before.before.before.before.before.before.before.check-guard.ensures _ c.before.before.before.before.before.before.before.before.before.before.before.before.goes.ensures _ c.before.before.before.before.before.before.before.before.before.before.before.if1.true (c.before.before.before.before.before.before.before.release.ensures h.state))
+    let released = c.before.before.before.before.before.before.before.release.ensures in
+    rw c.count-field.ensures (
+      λ numbers.
+          let s = state_of (board_of a.pointers.now a.variables.now) a.tally a.selectors.now numbers a.status.now in
+          play-on a.guard (Release a.p) s _ _ refl c.before.before.before.before.before.before.before.before.before.before.before.before.before.before.race-at.ensures c.before.before.before.before.before.before.before.before.before.before.before.before.before.check-guard.ensures _ c.before.before.before.before.before.before.before.before.before.before.before.before.goes.ensures _ c.before.before.before.before.before.before.before.before.before.before.before.if1.true (released.0 a.variables.now numbers),
+      record { kept = released.1.kept; few = released.1.few },
+    )
 
 same-length-4 : tie.Need-same-length-4
 same-length-4 c = search rules
 
 returns-2 : tie.Need-returns-2
 returns-2 c =
-    let a = c.before.before.before.before.before.before.before.before.before.args in
-    λ s.
-    let h = tallied a.tally (with_words a.pointers.now a.selectors.now (with_variables a.variables.now (with_status a.status.now s))) in
-    play-stop a.guard (Release a.p) h _ _ refl c.before.before.before.race-at.ensures c.before.before.check-guard.ensures _ c.before.goes.ensures c.if1.false
+    let a = c.before.before.before.before.before.before.before.before.before.args in (
+      λ numbers.
+          let s = state_of (board_of a.pointers.now a.variables.now) a.tally a.selectors.now numbers a.status.now in
+          play-stop a.guard (Release a.p) s _ _ refl c.before.before.before.race-at.ensures c.before.before.check-guard.ensures _ c.before.goes.ensures c.if1.false,
+      c.before.before.before.before.before.before.before.before.before.requires.1,
+    )
 
 pub play-free-spec : {M : Type 1} → statement M
 play-free-spec =

@@ -1,12 +1,11 @@
 -- `judge::plays::play_malloc` meets its contract.
 use Rattle.fields.specs.declared.Refusal.TheVariants.{TooManyMallocs}
+use Rattle.heap.specs.Boards.{board_of}
 use Rattle.judge.proofs.Steps.{play-full, play-on, play-stop}
-use Rattle.judge.specs.Steps.{tallied}
+use Rattle.rules.proofs.Tallies.{fields_kept}
 use Rattle.rules.specs.declared.Change.TheVariants.{Allocate}
-use Rattle.rules.specs.Effect.{count_field}
-use Rattle.rules.specs.State.{with_data, with_status, with_words}
-use borrow.Author.Tests.{le-ltb, lt-ltb}
-use borrow.Author.Rules.{rules}
+use Rattle.rules.specs.State.{state_of}
+use Rattle.std.proofs.Common.{arith, rules, le-ltb, lt-ltb}
 use Rattle.judge.proofs.plays.play_malloc.Statement.{statement}
 use Rattle.judge.proofs.plays.play_malloc.Tie as tie
 
@@ -25,11 +24,11 @@ goes-requires c κs = search rules
 give-cell-requires : tie.Need-give-cell-requires
 give-cell-requires c κs = search rules
 
-add-count-field : tie.Need-overflow-add-count-field
-add-count-field c = search rules
-
 count-field-requires : tie.Need-count-field-requires
-count-field-requires c κs = search rules
+count-field-requires c κs =
+    let a = c.before.before.before.before.before.before.before.before.before.before.before.before.before.before.before.before.before.before.before.before.before.before.before.before.before.before.args in
+    let s = state_of (board_of a.pointers.now a.variables.now) a.tally a.selectors.now a.numbers.now a.status.now in
+    omega (arith, fields_kept (Allocate a.p a.cell a.number) s _ (c.before.before.before.before.before.before.before.before.give-cell.ensures.0 a.variables.now), c.before.before.before.before.before.before.before.before.before.before.before.before.before.before.before.before.before.before.before.before.before.before.before.before.before.before.requires.0.0)
 
 same_length : tie.Need-same-length
 same_length c = search rules
@@ -44,12 +43,14 @@ same-length-4 : tie.Need-same-length-4
 same-length-4 c = search rules
 
 returns : tie.Need-returns
-unfolding count_field
 returns c =
-    let a = c.before.before.before.before.before.before.before.before.before.before.before.before.before.before.before.before.before.before.before.before.before.before.before.before.before.before.args in
-    rw c.count-field.ensures (λ s.
-    let h = tallied a.tally (with_words a.pointers.now a.selectors.now (with_data a.variables.now a.numbers.now (with_status a.status.now s))) in
-    play-on a.guard (Allocate a.p a.cell a.number) h _ _ (rw (lt-ltb _ _ c.before.before.before.before.before.before.before.before.before.before.before.before.before.before.before.before.before.before.before.before.if1.true)) c.before.before.before.before.before.before.before.before.before.before.before.before.before.before.before.before.before.check-vacant.ensures c.before.before.before.before.before.before.before.before.before.before.before.before.before.before.before.before.check-guard.ensures _ c.before.before.before.before.before.before.before.before.before.before.before.before.before.before.before.goes.ensures _ c.before.before.before.before.before.before.before.before.before.before.before.before.before.before.if2.true (c.before.before.before.before.before.before.before.before.before.give-cell.ensures h.state))
+    let a = c.before.before.before.before.before.before.before.before.before.before.before.before.before.before.before.before.before.before.before.before.before.before.before.before.before.before.before.args in
+    let s = state_of (board_of a.pointers.now a.variables.now) a.tally a.selectors.now a.numbers.now a.status.now in
+    let given = c.before.before.before.before.before.before.before.before.before.give-cell.ensures in
+    rw c.count-field.ensures (
+      play-on a.guard (Allocate a.p a.cell a.number) s _ _ (rw (lt-ltb _ _ c.before.before.before.before.before.before.before.before.before.before.before.before.before.before.before.before.before.before.before.before.if1.true)) c.before.before.before.before.before.before.before.before.before.before.before.before.before.before.before.before.before.check-vacant.ensures c.before.before.before.before.before.before.before.before.before.before.before.before.before.before.before.before.check-guard.ensures _ c.before.before.before.before.before.before.before.before.before.before.before.before.before.before.before.goes.ensures _ c.before.before.before.before.before.before.before.before.before.before.before.before.before.before.if2.true (given.0 a.variables.now),
+      record { kept = given.1.kept; few = given.1.few },
+    )
 
 same-length-5 : tie.Need-same-length-5
 same-length-5 c = search rules
@@ -59,17 +60,15 @@ same-length-6 c = search rules
 
 returns-2 : tie.Need-returns-2
 returns-2 c =
-    let a = c.before.before.before.before.before.before.before.before.before.before.before.before.args in
-    λ s.
-    let h = tallied a.tally (with_words a.pointers.now a.selectors.now (with_data a.variables.now a.numbers.now (with_status a.status.now s))) in
-    play-stop a.guard (Allocate a.p a.cell a.number) h _ _ (rw (lt-ltb _ _ c.before.before.before.before.before.before.if1.true)) c.before.before.before.check-vacant.ensures c.before.before.check-guard.ensures _ c.before.goes.ensures c.if2.false
+    let a = c.before.before.before.before.before.before.before.before.before.before.before.before.before.args in
+    let s = state_of (board_of a.pointers.now a.variables.now) a.tally a.selectors.now a.numbers.now a.status.now in
+    (play-stop a.guard (Allocate a.p a.cell a.number) s _ _ (rw (lt-ltb _ _ c.before.before.before.before.before.before.if1.true)) c.before.before.before.check-vacant.ensures c.before.before.check-guard.ensures _ c.before.goes.ensures c.if2.false, c.before.before.before.before.before.before.before.before.before.before.before.before.before.requires.1)
 
 returns-3 : tie.Need-returns-3
 returns-3 c =
-    let a = c.before.before.before.before.before.before.args in
-    λ s.
-    let h = tallied a.tally (with_words a.pointers.now a.selectors.now (with_data a.variables.now a.numbers.now (with_status a.status.now s))) in
-    play-full a.guard (Allocate a.p a.cell a.number) h TooManyMallocs (rw (le-ltb _ _ c.if1.false))
+    let a = c.before.before.before.before.before.before.before.args in
+    let s = state_of (board_of a.pointers.now a.variables.now) a.tally a.selectors.now a.numbers.now a.status.now in
+    (play-full a.guard (Allocate a.p a.cell a.number) s TooManyMallocs (rw (le-ltb _ _ c.if1.false)), c.before.before.before.before.before.before.before.requires.1)
 
 pub play-malloc-spec : {M : Type 1} → statement M
 play-malloc-spec =
@@ -80,7 +79,6 @@ play-malloc-spec =
     check-guard-requires
     goes-requires
     give-cell-requires
-    add-count-field
     count-field-requires
     same_length
     same-length-2

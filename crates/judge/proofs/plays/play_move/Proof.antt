@@ -1,13 +1,10 @@
 -- `judge::plays::play_move` meets its contract.
-use Rattle.checks.proofs.Answers.{through-looks}
+use Rattle.heap.specs.Boards.{board_of}
+use Rattle.judge.proofs.Answers.{through_looks}
 use Rattle.judge.proofs.Steps.{play-on, play-stop}
-use Rattle.judge.specs.Steps.{tallied}
 use Rattle.rules.specs.declared.Change.TheVariants.{Move}
-use Rattle.rules.specs.Effect.{count_field}
-use Rattle.rules.specs.State.{with_variables, with_words}
-use Rattle.effects.specs.Held.{hold}
-use mathlib.Core.Path.{ap, refl}
-use borrow.Author.Rules.{rules}
+use Rattle.rules.specs.State.{state_of}
+use Rattle.std.proofs.Common.{refl, rules}
 use Rattle.judge.proofs.plays.play_move.Statement.{statement}
 use Rattle.judge.proofs.plays.play_move.Tie as tie
 
@@ -30,7 +27,7 @@ move-word-requires : tie.Need-move-word-requires
 move-word-requires c κs = search rules
 
 count-field-requires : tie.Need-count-field-requires
-count-field-requires c κs = search rules
+count-field-requires c κs = c.before.before.before.before.before.before.before.before.before.before.before.before.before.before.before.before.before.before.requires
 
 same_length : tie.Need-same-length
 same_length c = search rules
@@ -39,15 +36,15 @@ same-length-2 : tie.Need-same-length-2
 same-length-2 c = search rules
 
 returns : tie.Need-returns
-unfolding count_field
 returns c =
     let a = c.before.before.before.before.before.before.before.before.before.before.before.before.before.before.before.before.before.before.before.args in
-    let to = c.before.before.before.before.before.before.before.before.before.before.before.before.before.before.pointer-through in
-    let from = c.before.before.before.before.before.before.before.before.before.before.before.before.before.pointer-through2 in
-    let passed = through-looks a.pointers.now to.result from.result _ _ _ to.ensures from.ensures c.before.before.before.before.before.before.before.before.before.before.before.before.check-through.ensures in
-    rw c.count-field.ensures (λ s.
-    let h = tallied a.tally (with_words a.pointers.now a.selectors.now (with_variables a.variables.now s)) in
-    play-on a.guard (Move a.to a.from) h _ _ refl passed c.before.before.before.before.before.before.before.before.before.before.check-guard.ensures _ c.before.before.before.before.before.before.before.before.before.goes.ensures _ c.before.before.before.before.before.before.before.before.if1.true (ap (hold a.tally.live) (c.before.before.before.before.before.move-word.ensures h.state)))
+    let passed = through_looks a.pointers.now c.before.before.before.before.before.before.before.before.before.before.before.before.before.before.pointer-through.result c.before.before.before.before.before.before.before.before.before.before.before.before.before.pointer-through2.result _ _ _ c.before.before.before.before.before.before.before.before.before.before.before.before.before.before.pointer-through.ensures c.before.before.before.before.before.before.before.before.before.before.before.before.before.pointer-through2.ensures c.before.before.before.before.before.before.before.before.before.before.before.before.check-through.ensures in
+    rw c.count-field.ensures (
+      λ numbers status.
+          let s = state_of (board_of a.pointers.now a.variables.now) a.tally a.selectors.now numbers status in
+          play-on a.guard (Move a.to a.from) s _ _ refl passed c.before.before.before.before.before.before.before.before.before.before.check-guard.ensures _ c.before.before.before.before.before.before.before.before.before.goes.ensures _ c.before.before.before.before.before.before.before.before.if1.true (c.before.before.before.before.before.move-word.ensures a.tally a.variables.now numbers status),
+      refl,
+    )
 
 same-length-3 : tie.Need-same-length-3
 same-length-3 c = search rules
@@ -55,11 +52,12 @@ same-length-3 c = search rules
 returns-2 : tie.Need-returns-2
 returns-2 c =
     let a = c.before.before.before.before.before.before.before.before.before.before.before.args in
-    let to = c.before.before.before.before.before.before.pointer-through in
-    let from = c.before.before.before.before.before.pointer-through2 in
-    let passed = through-looks a.pointers.now to.result from.result _ _ _ to.ensures from.ensures c.before.before.before.before.check-through.ensures in
-    λ s.
-    play-stop a.guard (Move a.to a.from) (tallied a.tally (with_words a.pointers.now a.selectors.now (with_variables a.variables.now s))) _ _ refl passed c.before.before.check-guard.ensures _ c.before.goes.ensures c.if1.false
+    let passed = through_looks a.pointers.now c.before.before.before.before.before.before.pointer-through.result c.before.before.before.before.before.pointer-through2.result _ _ _ c.before.before.before.before.before.before.pointer-through.ensures c.before.before.before.before.before.pointer-through2.ensures c.before.before.before.before.check-through.ensures in (
+      λ numbers status.
+          let s = state_of (board_of a.pointers.now a.variables.now) a.tally a.selectors.now numbers status in
+          play-stop a.guard (Move a.to a.from) s _ _ refl passed c.before.before.check-guard.ensures _ c.before.goes.ensures c.if1.false,
+      refl,
+    )
 
 pub play-move-spec : {M : Type 1} → statement M
 play-move-spec =

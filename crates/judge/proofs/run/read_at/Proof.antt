@@ -1,8 +1,6 @@
 -- `judge::run::read_at` meets its contract.
-use Rattle.fields.proofs.Lists.{part}
-use borrow.Author.Rules.{rules}
-use borrow.Author.Tests.{le-ltb, lt-ltb}
-use native.Mathlib.Omega.{arith}
+use Rattle.judge.proofs.Running.{part}
+use Rattle.std.proofs.Common.{arith, rules, le-ltb, lt-ltb}
 use Rattle.judge.proofs.run.read_at.Statement.{statement}
 use Rattle.judge.proofs.run.read_at.Tie as tie
 

@@ -1,6 +1,5 @@
 -- `judge::step::step` meets its contract.
-use Rattle.rules.specs.State.{state_of}
-use borrow.Author.Rules.{rules}
+use Rattle.std.proofs.Common.{rules}
 use Rattle.judge.proofs.step.step.Statement.{statement}
 use Rattle.judge.proofs.step.step.Tie as tie
 
@@ -14,7 +13,7 @@ slice-aggregate-play-2 : tie.Need-slice-aggregate-play-2
 slice-aggregate-play-2 c = search rules
 
 play-requires : tie.Need-play-requires
-play-requires c κs = search rules
+play-requires c κs = c.before.before.before.before.before.before.before.before.before.before.before.requires
 
 same_length : tie.Need-same-length
 same_length c = search rules
@@ -27,8 +26,8 @@ same-length-3 c = search rules
 
 returns : tie.Need-returns
 returns c =
-    let a = c.before.before.before.before.before.before.before.before.before.before.before.before.before.before.before.before.before.before.before.before.before.args in
-    rw (← c.before.before.before.before.before.before.before.before.before.before.before.before.before.before.before.act-of.ensures) (c.before.before.before.before.before.before.before.before.before.play.ensures (state_of a.board a.tally a.selectors.now a.numbers.now a.status.now))
+    let played = c.before.before.before.before.before.before.before.before.before.play.ensures in
+    (rw (← c.before.before.before.before.before.before.before.before.before.before.before.before.before.before.before.act-of.ensures) played.0, played.1)
 
 pub step_spec : {M : Type 1} → statement M
 step_spec =

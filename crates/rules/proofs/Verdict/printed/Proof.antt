@@ -9,11 +9,11 @@ enum-known-self c = search rules
 enum-known-self-2 : tie.Need-enum-known-self-2
 enum-known-self-2 c = search rules
 
-cast-t17 : tie.Need-overflow-cast-t17
-cast-t17 c = search rules
+cast-t23 : tie.Need-overflow-cast-t23
+cast-t23 c = search rules
 
-cast-t18 : tie.Need-overflow-cast-t18
-cast-t18 c = search rules
+cast-t24 : tie.Need-overflow-cast-t24
+cast-t24 c = search rules
 
 enum-known-self-3 : tie.Need-enum-known-self-3
 enum-known-self-3 c = search rules
@@ -21,8 +21,8 @@ enum-known-self-3 c = search rules
 number-requires : tie.Need-number-requires
 number-requires c κs = search rules
 
-cast-t22 : tie.Need-overflow-cast-t22
-cast-t22 c = search rules
+cast-t29 : tie.Need-overflow-cast-t29
+cast-t29 c = search rules
 
 enum-known-self-4 : tie.Need-enum-known-self-4
 enum-known-self-4 c = search rules
@@ -30,20 +30,20 @@ enum-known-self-4 c = search rules
 number-requires-2 : tie.Need-number-requires-2
 number-requires-2 c κs = search rules
 
-cast-t26 : tie.Need-overflow-cast-t26
-cast-t26 c = search rules
+cast-t34 : tie.Need-overflow-cast-t34
+cast-t34 c = search rules
 
 returns : tie.Need-returns
-returns c = rw c.before.self.given.1
+returns c = rw c.before.before.before.self.given.1
 
 returns-2 : tie.Need-returns-2
-returns-2 c = rw c.before.self2.given.1
+returns-2 c = rw c.before.before.before.self2.given.1
 
 returns-3 : tie.Need-returns-3
-returns-3 c = rw (c.before.before.self3.given.1, c.number.ensures)
+returns-3 c = rw (c.before.before.before.before.self3.given.1, c.number.ensures)
 
 returns-4 : tie.Need-returns-4
-returns-4 c = rw (c.before.before.self4.given.1, c.number2.ensures)
+returns-4 c = rw (c.before.before.before.before.self4.given.1, c.number2.ensures)
 
 pub printed-spec : {M : Type 1} → statement M
 printed-spec =
@@ -51,14 +51,14 @@ printed-spec =
     (tie.spec
     enum-known-self
     enum-known-self-2
-    cast-t17
-    cast-t18
+    cast-t23
+    cast-t24
     enum-known-self-3
     number-requires
-    cast-t22
+    cast-t29
     enum-known-self-4
     number-requires-2
-    cast-t26
+    cast-t34
     returns
     returns-2
     returns-3

@@ -1,6 +1,6 @@
 -- `show::seek::seek` meets its contract. The invariant: the search from the place on gives what the whole search gives.
 use Prim.Native.Nat.{◌+◌, ◌-◌, ◌≤◌, suc}
-use Rattle.fields.proofs.Lists.{part}
+use Rattle.judge.proofs.Running.{part}
 use Rattle.show.proofs.Seeking.{far, found, fronted, none_left, passed, stopped}
 use Rattle.show.specs.Seeking.{seek_from}
 use borrow.Author.Rules.{rules}

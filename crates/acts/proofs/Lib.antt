@@ -1,3 +1,0 @@
--- What is proved of decoding, beside the functions' own proofs.
--- Assumes nothing.
-pub mod OneResult

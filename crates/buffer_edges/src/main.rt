@@ -1,0 +1,155 @@
+// Judges logs over lent buffers of edge lengths, and prints the verdict and how many places of each buffer were changed.
+// Every place holds beforehand a value that no judged log leaves there, so that a place which was written is seen.
+ghost use Rattle.std.specs.Prelude.{◌≡◌, ◌+◌, ◌≤◌, length};
+
+use console::{ROOM, end_line, put, put_number, put_verdict};
+use fields::Log;
+use libc::STDOUT_FILENO;
+use rules::{Board, Heap, Tally, Verdict};
+
+// Places that each buffer has past its size.
+const SPARE: usize = 8;
+
+const WORD: u16 = 0xaaaa;
+
+const NUMBER: u32 = 0xaaaa_aaaa;
+
+const STATUS: u8 = 0xaa;
+
+// Document 01's case E: it is accepted, with 6 fields, 3 mallocs and 2 live cells.
+const CASE_E: [u8; 52] = [
+    1, 8, 0, 0, 0, 5, 0, 0, 0, 0, 0, 1, 8, 0, 0, 1, 6, 0, 0, 0, 0, 0, 5, 4, 0, 0, 0, 0, 1, 2, 2, 0,
+    0, 0, 1, 8, 0, 0, 0, 5, 0, 0, 0, 0, 0, 4, 4, 0, 0, 16, 0, 0,
+];
+
+fn changed_words(words: &[u16]) -> usize {
+    let mut changed = 0;
+    let mut i = 0;
+    while i < words.len() {
+        if words[i] != WORD {
+            changed += 1;
+        }
+        i += 1;
+    }
+    changed
+}
+
+fn changed_numbers(numbers: &[u32]) -> usize {
+    let mut changed = 0;
+    let mut i = 0;
+    while i < numbers.len() {
+        if numbers[i] != NUMBER {
+            changed += 1;
+        }
+        i += 1;
+    }
+    changed
+}
+
+fn changed_status(status: &[u8]) -> usize {
+    let mut changed = 0;
+    let mut i = 0;
+    while i < status.len() {
+        if status[i] != STATUS {
+            changed += 1;
+        }
+        i += 1;
+    }
+    changed
+}
+
+fn put_count(text: &mut [u8; ROOM], start: usize, count: usize) -> usize {
+    let at = put(text, start, b' ');
+    put_number(text, at, count as u64)
+}
+
+// How much of a buffer is lent: one place less than its size where it is the short one, else its size and what is asked beyond.
+fn lent(size: usize, buffer: u8, short: u8, beyond: usize) -> usize
+    requires { (1 ≤ size) × ((size ≤ 2048) × (beyond ≤ 8)) }
+    ensures { result ≤ size + 8 }
+{
+    if buffer == short {
+        return size - 1;
+    }
+    size + beyond
+}
+
+// The verdict, then how many places were changed of pointers, selectors, variables, numbers and status.
+fn write_line(
+    verdict: Verdict,
+    pointers: &[u16],
+    selectors: &[u16],
+    variables: &[u32],
+    numbers: &[u32],
+    status: &[u8],
+) {
+    let mut text = [0u8; ROOM];
+    let mut at = put_verdict(&mut text, 0, verdict);
+    at = put_count(&mut text, at, changed_words(pointers));
+    at = put_count(&mut text, at, changed_words(selectors));
+    at = put_count(&mut text, at, changed_numbers(variables));
+    at = put_count(&mut text, at, changed_numbers(numbers));
+    at = put_count(&mut text, at, changed_status(status));
+    end_line(STDOUT_FILENO, &mut text, at);
+}
+
+fn show(
+    log: &[u8],
+    short: u8,
+    beyond: usize,
+    pointers: &mut [u16],
+    selectors: &mut [u16],
+    variables: &mut [u32],
+    numbers: &mut [u32],
+    status: &mut [u8],
+)
+    requires beyond_bound { beyond ≤ 8 }
+    requires pointers_len { (length pointers.old ≡ 88) × ((length selectors.old ≡ 2056) × ((length variables.old ≡ 88) × ((length numbers.old ≡ 1032) × (length status.old ≡ 1032)))) }
+{
+    let p = lent(Board::POINTERS, 1, short, beyond);
+    let s = lent(Heap::SELECTORS, 2, short, beyond);
+    let v = lent(Board::VARIABLES, 3, short, beyond);
+    let n = lent(Heap::CELLS, 4, short, beyond);
+    let t = lent(Heap::CELLS, 5, short, beyond);
+    let judged = judge::judge_log(
+        log,
+        &mut pointers[..p],
+        &mut selectors[..s],
+        &mut variables[..v],
+        &mut numbers[..n],
+        &mut status[..t],
+        Tally::fresh(),
+    );
+    let verdict = judged.verdict;
+    write_line(verdict, pointers, selectors, variables, numbers, status);
+}
+
+fn judge_poisoned(log: &[u8], short: u8, beyond: usize)
+    requires { beyond ≤ 8 }
+{
+    let mut pointers = [WORD; Board::POINTERS + SPARE];
+    let mut selectors = [WORD; Heap::SELECTORS + SPARE];
+    let mut variables = [NUMBER; Board::VARIABLES + SPARE];
+    let mut numbers = [NUMBER; Heap::CELLS + SPARE];
+    let mut status = [STATUS; Heap::CELLS + SPARE];
+    show(
+        log,
+        short,
+        beyond,
+        &mut pointers,
+        &mut selectors,
+        &mut variables,
+        &mut numbers,
+        &mut status,
+    );
+}
+
+fn main() {
+    let case = CASE_E;
+    let long = [0u8; Log::ROOM];
+    for short in 0..6u8 {
+        judge_poisoned(&case, short, 0);
+        judge_poisoned(&case, short, SPARE);
+        judge_poisoned(&long, short, 0);
+    }
+}

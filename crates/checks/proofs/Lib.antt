@@ -1,3 +1,0 @@
--- The laws of the answers.
--- Assumes nothing.
-pub mod Answers

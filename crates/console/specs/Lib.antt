@@ -1,2 +1,0 @@
--- How a command ends.
-pub mod Endings

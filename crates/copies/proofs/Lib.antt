@@ -1,3 +1,0 @@
--- The laws that the proofs of this crate share.
--- Assumes nothing.
-pub mod Laid

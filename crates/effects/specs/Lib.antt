@@ -1,3 +1,0 @@
--- What the contracts of this crate name beside the rules.
--- Assumes nothing.
-pub mod Held

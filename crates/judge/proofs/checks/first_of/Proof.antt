@@ -1,0 +1,27 @@
+-- `judge::checks::first_of` meets its contract.
+use Rattle.std.proofs.Common.{rules}
+use Rattle.judge.proofs.checks.first_of.Statement.{statement}
+use Rattle.judge.proofs.checks.first_of.Tie as tie
+
+enum_told : tie.Need-enum-told
+enum_told c = search rules
+
+enum-known-answer : tie.Need-enum-known-answer
+enum-known-answer c = search rules
+
+enum-known-answer-2 : tie.Need-enum-known-answer-2
+enum-known-answer-2 c = search rules
+
+returns : tie.Need-returns
+returns c = search rules
+
+returns-2 : tie.Need-returns-2
+returns-2 c = rw c.before.answer.given.1
+
+returns-3 : tie.Need-returns-3
+returns-3 c = rw c.before.answer2.given.1
+
+pub first-of-spec : {M : Type 1} → statement M
+first-of-spec =
+    tie.close
+    (tie.spec enum_told enum-known-answer enum-known-answer-2 returns returns-2 returns-3)

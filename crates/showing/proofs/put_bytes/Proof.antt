@@ -1,0 +1,51 @@
+-- `showing::put_bytes` meets its contract.
+use Prim.Native.Nat.{◌-◌, ◌≤◌}
+use borrow.Author.Rules.{rules}
+use lib.ListN.{length}
+use Rattle.showing.proofs.put_bytes.Statement.{statement}
+use Rattle.showing.proofs.put_bytes.Tie as tie
+
+abbrev invariant-loop : tie.invariant-loop
+invariant-loop text₀ start part at₀ i₀ text at i = i ≤ length part
+
+abbrev decreases-loop : tie.decreases-loop
+decreases-loop text₀ start part at₀ i₀ text at i = length part - i
+
+loop-holds : tie.Need-loop-init invariant-loop decreases-loop
+loop-holds c = search rules
+
+put-requires : tie.Need-put-requires invariant-loop decreases-loop
+put-requires c κs = search rules
+
+shared-slice-read-put-byte : tie.Need-shared-slice-read-put-byte invariant-loop decreases-loop
+shared-slice-read-put-byte c = search rules
+
+put-byte-requires : tie.Need-put-byte-requires invariant-loop decreases-loop
+put-byte-requires c κs = search rules
+
+add-i : tie.Need-overflow-add-i invariant-loop decreases-loop
+add-i c = search rules
+
+loop-less : tie.Need-loop-smaller invariant-loop decreases-loop
+loop-less c = search rules
+
+loop-again : tie.Need-loop-preserved invariant-loop decreases-loop
+loop-again c = search rules
+
+returns : tie.Need-returns invariant-loop decreases-loop
+returns c = search rules
+
+pub put-bytes-spec : {M : Type 1} → statement M
+put-bytes-spec =
+    tie.close
+    (tie.spec
+    invariant-loop
+    decreases-loop
+    loop-holds
+    put-requires
+    shared-slice-read-put-byte
+    put-byte-requires
+    add-i
+    loop-less
+    loop-again
+    returns)
