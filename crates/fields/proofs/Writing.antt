@@ -45,29 +45,29 @@ module _ (f : Field) (out : List ℕ) where
   abbrev pub refused : Refusal → Writing
   refused r = writing (Refused r) out
 
-  abbrev pub roomTest : List (Test Refusal)
-  roomTest = test (leb (length (field_bytes f)) (length out)) OutputTooShort ∷ []
+  abbrev pub room_test : List (Test Refusal)
+  room_test = test (leb (length (field_bytes f)) (length out)) OutputTooShort ∷ []
 
   abbrev pub wrote : Writing
   wrote = writing (Bytes (length (field_bytes f))) (field_bytes f ++ drop (length (field_bytes f)) out)
 
   -- after the checks of the value
   abbrev pub settled : Checked → Writing
-  settled Passed = in_order refused wrote roomTest
+  settled Passed = in_order refused wrote room_test
   settled (Failed r) = refused r
 
   pub write_checked : (r : Row) (k : Checked) → is_tag f.tag ≡ true → r ≡ row_of f.tag → k ≡ in_order Failed Passed (value_checks r f) → settled k ≡ write_field f out
   unfolding write_field
   write_checked r k known row check =
       rw (known, check, row)
-      (in_order_map settled Failed Passed (value_checks (row_of f.tag) f) ∙ sym (in-order-append refused wrote (value_checks (row_of f.tag) f) roomTest))
+      (in_order_map settled Failed Passed (value_checks (row_of f.tag) f) ∙ sym (in-order-append refused wrote (value_checks (row_of f.tag) f) room_test))
 
   -- a field that passes every check is written
   pub writes : is_tag f.tag ≡ true → Every Passes (value_checks (row_of f.tag) f) → length (field_bytes f) ≤ length out → write_field f out ≡ wrote
   unfolding write_field
   writes known right room =
       all_pass refused wrote (writing_checks f (length out))
-      (known, every_join Passes (value_checks (row_of f.tag) f) roomTest right (le-leb (length (field_bytes f)) (length out) room, tt))
+      (known, every_join Passes (value_checks (row_of f.tag) f) room_test right (le-leb (length (field_bytes f)) (length out) room, tt))
 
   pub write-unknown : is_tag f.tag ≡ false → refused UnknownTag ≡ write_field f out
   unfolding write_field
