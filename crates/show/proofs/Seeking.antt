@@ -7,18 +7,17 @@ use lib.Dec.{leb, ltb}
 use lib.ListN.{drop, drop_of_length-le, length, length-drop}
 use lib.Seq.{drop-drop}
 use mathlib.Core.Bool.{Bool, true, false, cond}
-use mathlib.Core.List.{List, [], ◌∷◌, ◌++◌}
+use mathlib.Core.List.{List, [], ◌∷◌}
 use mathlib.Core.Path.{◌≡◌, refl, ap, sym, ◌∙◌}
 use native.Mathlib.Nat.{le_of_suc-le-suc, not-suc-le-zero, zero-add}
 use native.Mathlib.Omega.{arith}
 use Rattle.fields.proofs.Passing.{all-passed, either}
 use Rattle.fields.specs.declared.Field.{Field}
 use Rattle.fields.specs.declared.Refusal.TheVariants.{FieldNotReached, LogTooLong}
-use Rattle.fields.specs.Checks.{value_checks}
 use Rattle.fields.specs.Limits.{header_bytes, log_bytes, log_fields, log_mallocs}
 use Rattle.fields.specs.Order.{test}
-use Rattle.fields.specs.Read.{Got, Reading, Refused as Unread, field_of, framing_checks, read_field, tag_in, value_in}
-use Rattle.fields.specs.Rows.{length_of, row_of}
+use Rattle.fields.specs.Read.{Got, Reading, Refused as Unread, read_field}
+use Rattle.fields.specs.Rows.{length_of}
 use Rattle.judge.proofs.Running.{got_passed, some_left}
 use Rattle.rules.specs.declared.Shown.{Shown}
 use Rattle.rules.specs.declared.Shown.TheVariants.{Part, Refused}
