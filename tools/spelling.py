@@ -17,7 +17,7 @@ import sys
 # Lemmas that would get the name of the definition that they are about, by the names that port.py leaves.
 BESIDE = {w: n + "_lem" for w, n in {
     "copied_at": "copied_at", "goes_on": "goes_on", "long-enough": "long_enough", "same-field": "same_field", "front-widths": "front_widths",
-    "late-reuse": "late_reuse", "same-adr": "same_adr", "read_told": "read_told", "after_free": "after_free", "points_to": "points_to", "no_race": "no_race",
+    "late-reuse": "late_reuse", "same-data": "same_data", "same-pointers": "same_pointers", "same-adr": "same_adr", "read_told": "read_told", "after_free": "after_free", "points_to": "points_to", "no_race": "no_race",
 }.items()}
 LIBRARY = set(
     "length take drop append map reverse set get get_or sum add mul sub div mod min max not and or cons nil replicate splice suc zero eq lt le refl".split()
@@ -25,7 +25,7 @@ LIBRARY = set(
 WORD = r"[^\s(){}\[\].,;:`\"|]"
 DECLARED = re.compile(r"^(?:(?:abbrev|unfoldable|pub|private)\s+)*(" + WORD + r"+)\s*(?:\{[^}]*\}\s*)?:(?!:)")
 FIELD = re.compile(r"^\s+(?:pub\s+)?([a-z]" + WORD + r"*)\s*:(?!:)")
-CONSTRUCTOR = re.compile(r"^\s+(?:\|\s*)?([a-z]" + WORD + r"*)\s*:(?!:)")
+INNER = re.compile(r"^(?: {2}| {4}| {6})(?:(?:abbrev|unfoldable|pub|private)\s+)*([a-z]" + WORD + r"*)\s*:(?!:)")
 
 
 def files(top, *patterns):
@@ -37,14 +37,17 @@ def declared(top):
     """The words that a file of specs/ or one right in proofs/ declares, without the types."""
     words = set()
     for path in files(top, "specs/*.antt", "proofs/*.antt"):
-        inside = False
+        form = DECLARED
         for line in open(path, encoding="utf-8"):
             if re.match(r"(?:pub\s+)?(?:record|data)\b", line):
-                inside = True
+                form = FIELD
+                continue
+            if re.match(r"(?:pub\s+)?module\b", line):
+                form = INNER
                 continue
             if line.strip() and not line[0].isspace():
-                inside = False
-            found = (FIELD if inside else DECLARED).match(line)
+                form = DECLARED
+            found = form.match(line)
             if found and re.match(r"[a-z]", found.group(1)):
                 words.add(found.group(1))
     return words

@@ -21,7 +21,7 @@ use Rattle.fields.specs.Numbers.{field_with}
 use Rattle.fields.specs.Checks.{value_checks}
 use Rattle.fields.specs.Read.{Got, Reading, Refused, field_of, framing_checks, read_field, tag_in, value_in}
 use Rattle.fields.proofs.Digits.{byte_at}
-use Rattle.fields.proofs.Passing.{all-passed, in-order-append, in_order_map}
+use Rattle.fields.proofs.Passing.{all_passed, in_order_append, in_order_map}
 
 -- ---- what a frame says
 abbrev pub framing : List ℕ → Frame
@@ -34,7 +34,7 @@ pub record Whole (s : List ℕ) (tag : ℕ) : Type 0 where
 
 pub whole : (s : List ℕ) (tag : ℕ) → framing s ≡ Framed tag → Whole s tag
 whole s tag e =
-    let p = all-passed Unframed (Framed (tag_in s)) (framing_checks s) (Framed tag) (λ r q. let z : ◌≡◌ {A = ℕ} 0 1 = cc in omega arith) e in
+    let p = all_passed Unframed (Framed (tag_in s)) (framing_checks s) (Framed tag) (λ r q. let z : ◌≡◌ {A = ℕ} 0 1 = cc in omega arith) e in
     let f : Framed (tag_in s) ≡ Framed tag = p.1 in
     let t : tag_in s ≡ tag = cc in
     record {
@@ -56,7 +56,7 @@ read_frame : (s : List ℕ) → read_field s ≡ valued s (framing s)
 unfolding read_field
 read_frame s =
     let f = field_of (tag_in s) (value_in s) in
-    in-order-append Refused (Got f) (framing_checks s) (value_checks (row_of (tag_in s)) f)
+    in_order_append Refused (Got f) (framing_checks s) (value_checks (row_of (tag_in s)) f)
     ∙ ap (λ (r : Reading). in_order Refused r (framing_checks s)) (sym (in_order_map (checked f) Failed Passed (value_checks (row_of (tag_in s)) f)))
     ∙ sym (in_order_map (valued s) Unframed (Framed (tag_in s)) (framing_checks s))
 

@@ -30,11 +30,11 @@ Passes t = t.passes ≡ true
 
 module _ {A B : Type 0} (stop : A → B) (done : B) where
   -- an answer that no test gives says that every test passed
-  pub all-passed : (ts : List (Test A)) (end : B) → ((x : A) → stop x ≡ end → ⊥) → in_order stop done ts ≡ end → Every Passes ts × (done ≡ end)
-  all-passed [] end n e = (tt, e)
-  all-passed (t ∷ ts) end n e =
+  pub all_passed : (ts : List (Test A)) (end : B) → ((x : A) → stop x ≡ end → ⊥) → in_order stop done ts ≡ end → Every Passes ts × (done ≡ end)
+  all_passed [] end n e = (tt, e)
+  all_passed (t ∷ ts) end n e =
       let p = taken t.passes (in_order stop done ts) (stop t.says) end (n t.says) e in
-      let q = all-passed ts end n p.1 in
+      let q = all_passed ts end n p.1 in
       ((p.0, q.0), q.1)
 
   pub all_pass : (ts : List (Test A)) → Every Passes ts → in_order stop done ts ≡ done
@@ -42,9 +42,9 @@ module _ {A B : Type 0} (stop : A → B) (done : B) where
   all_pass (t ∷ ts) p = rw p.0 (all_pass ts p.1)
 
   -- two runs of tests are one
-  pub in-order-append : (ts us : List (Test A)) → in_order stop done (ts ++ us) ≡ in_order stop (in_order stop done us) ts
-  in-order-append [] us = refl
-  in-order-append (t ∷ ts) us = ap (λ (b : B). cond t.passes b (stop t.says)) (in-order-append ts us)
+  pub in_order_append : (ts us : List (Test A)) → in_order stop done (ts ++ us) ≡ in_order stop (in_order stop done us) ts
+  in_order_append [] us = refl
+  in_order_append (t ∷ ts) us = ap (λ (b : B). cond t.passes b (stop t.says)) (in_order_append ts us)
 
 -- what is done with the answer may be done with each answer
 pub in_order_map : {A B C : Type 0} (f : B → C) (stop : A → B) (done : B) (ts : List (Test A)) → f (in_order stop done ts) ≡ in_order (λ x. f (stop x)) (f done) ts

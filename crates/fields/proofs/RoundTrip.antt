@@ -23,9 +23,9 @@ use Rattle.fields.specs.Read.{Got, Refused, field_of, framing_checks, read_field
 use Rattle.fields.specs.Write.{Writing, field_bytes, write_field, writing, writing_checks}
 use Rattle.fields.proofs.Digits.{length-pack}
 use Rattle.fields.proofs.Packing.{Fit, cap, fit_unpack, pack-unpack, unpack-pack}
-use Rattle.fields.proofs.Passing.{Passes, all_pass, all-passed, every_cut, every_join}
+use Rattle.fields.proofs.Passing.{Passes, all_pass, all_passed, every_cut, every_join}
 use Rattle.fields.proofs.Tags.{tag_below}
-use Rattle.fields.proofs.Writing.{length-field_bytes, length_most, refused, roomTest, writes, wrote}
+use Rattle.fields.proofs.Writing.{length-field_bytes, length_most, refused, room_test, writes, wrote}
 
 -- a field whose bytes read as that very field
 pub record Readable (f : Field) : Type 0 where
@@ -93,7 +93,7 @@ back_at x y z v b framed right =
 pub back : (s : List ℕ) (f : Field) → AreBytes s → read_field s ≡ Got f → Readable f × (s ≡ field_bytes f ++ drop (3 + length_of f.tag) s)
 unfolding read_field Back
 back s f b e =
-    let p = all-passed Refused (Got (field_of (tag_in s) (value_in s))) (framing_checks s ++ value_checks (row_of (tag_in s)) (field_of (tag_in s) (value_in s))) (Got f) (λ r q. let z : ◌≡◌ {A = ℕ} 0 1 = cc in omega arith) e in
+    let p = all_passed Refused (Got (field_of (tag_in s) (value_in s))) (framing_checks s ++ value_checks (row_of (tag_in s)) (field_of (tag_in s) (value_in s))) (Got f) (λ r q. let z : ◌≡◌ {A = ℕ} 0 1 = cc in omega arith) e in
     let g : Got (field_of (tag_in s) (value_in s)) ≡ Got f = p.1 in
     let field : field_of (tag_in s) (value_in s) ≡ f = cc in
     let cut = every_cut Passes (framing_checks s) (value_checks (row_of (tag_in s)) (field_of (tag_in s) (value_in s))) p.0 in
@@ -207,14 +207,17 @@ readable_itself f h known right =
     }
 
 not-refused : (f : Field) (out after : List ℕ) (n : ℕ) (r : Refusal) → refused f out r ≡ writing (Bytes n) after → ⊥
-not-refused f out after n r e = let z : ◌≡◌ {A = ℕ} 0 1 = cc (ap (λ (w : Writing). w.answer) e) in omega arith
+not-refused f out after n r e =
+    let answers = ap (λ (w : Writing). w.answer) e in
+    let z : ◌≡◌ {A = ℕ} 0 1 = cc in
+    omega arith
 
 -- every writable field reads back as itself
 pub written_then_read : (f : Field) (out after : List ℕ) (n : ℕ) → Held f → write_field f out ≡ writing (Bytes n) after → read_field after ≡ Got (itself f)
 unfolding write_field
 written_then_read f out after n h e =
-    let p = all-passed (refused f out) (wrote f out) (writing_checks f (length out)) (writing (Bytes n) after) (not-refused f out after n) e in
+    let p = all_passed (refused f out) (wrote f out) (writing_checks f (length out)) (writing (Bytes n) after) (not-refused f out after n) e in
     let bytes : field_bytes f ++ drop (length (field_bytes f)) out ≡ after = ap (λ (w : Writing). w.output) p.1 in
-    let checks = every_cut Passes (value_checks (row_of f.tag) f) (roomTest f out) p.0.1 in
+    let checks = every_cut Passes (value_checks (row_of f.tag) f) (room_test f out) p.0.1 in
     let rest = drop (length (field_bytes f)) out in
     rw (← bytes) (rw (bytes_itself f) at (there (itself f) rest (readable_itself f h p.0.0 checks.0)))

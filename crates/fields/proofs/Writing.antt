@@ -25,7 +25,7 @@ use Rattle.fields.specs.Numbers.{numbers_of}
 use Rattle.fields.specs.Checks.{value_checks}
 use Rattle.fields.specs.Write.{Writing, field_bytes, write_field, writing, writing_checks}
 use Rattle.fields.proofs.Digits.{length-pack}
-use Rattle.fields.proofs.Passing.{Passes, all_pass, either, every_join, in-order-append, in_order_map}
+use Rattle.fields.proofs.Passing.{Passes, all_pass, either, every_join, in_order_append, in_order_map}
 
 pub length-field_bytes : (f : Field) → length (field_bytes f) ≡ 3 + length_of f.tag
 unfolding field_bytes length_of
@@ -45,40 +45,40 @@ module _ (f : Field) (out : List ℕ) where
   abbrev pub refused : Refusal → Writing
   refused r = writing (Refused r) out
 
-  abbrev pub roomTest : List (Test Refusal)
-  roomTest = test (leb (length (field_bytes f)) (length out)) OutputTooShort ∷ []
+  abbrev pub room_test : List (Test Refusal)
+  room_test = test (leb (length (field_bytes f)) (length out)) OutputTooShort ∷ []
 
   abbrev pub wrote : Writing
   wrote = writing (Bytes (length (field_bytes f))) (field_bytes f ++ drop (length (field_bytes f)) out)
 
   -- after the checks of the value
   abbrev pub settled : Checked → Writing
-  settled Passed = in_order refused wrote roomTest
+  settled Passed = in_order refused wrote room_test
   settled (Failed r) = refused r
 
   pub write_checked : (r : Row) (k : Checked) → is_tag f.tag ≡ true → r ≡ row_of f.tag → k ≡ in_order Failed Passed (value_checks r f) → settled k ≡ write_field f out
   unfolding write_field
   write_checked r k known row check =
       rw (known, check, row)
-      (in_order_map settled Failed Passed (value_checks (row_of f.tag) f) ∙ sym (in-order-append refused wrote (value_checks (row_of f.tag) f) roomTest))
+      (in_order_map settled Failed Passed (value_checks (row_of f.tag) f) ∙ sym (in_order_append refused wrote (value_checks (row_of f.tag) f) room_test))
 
   -- a field that passes every check is written
   pub writes : is_tag f.tag ≡ true → Every Passes (value_checks (row_of f.tag) f) → length (field_bytes f) ≤ length out → write_field f out ≡ wrote
   unfolding write_field
   writes known right room =
       all_pass refused wrote (writing_checks f (length out))
-      (known, every_join Passes (value_checks (row_of f.tag) f) roomTest right (le-leb (length (field_bytes f)) (length out) room, tt))
+      (known, every_join Passes (value_checks (row_of f.tag) f) room_test right (le-leb (length (field_bytes f)) (length out) room, tt))
 
-  pub write-unknown : is_tag f.tag ≡ false → refused UnknownTag ≡ write_field f out
+  pub write_unknown : is_tag f.tag ≡ false → refused UnknownTag ≡ write_field f out
   unfolding write_field
-  write-unknown e = rw e
+  write_unknown e = rw e
 
-  pub room-short : length out < 3 + length_of f.tag → refused OutputTooShort ≡ settled Passed
-  room-short h = rw (lt-leb (length (field_bytes f)) (length out) (omega (arith, length-field_bytes f)))
+  pub room_short : length out < 3 + length_of f.tag → refused OutputTooShort ≡ settled Passed
+  room_short h = rw (lt-leb (length (field_bytes f)) (length out) (omega (arith, length-field_bytes f)))
 
-  pub room-enough : (r : Row) (n : ℕ) (l : List ℕ) → r ≡ row_of f.tag → n ≡ length_of f.tag → 3 + n ≤ length out
+  pub room_enough : (r : Row) (n : ℕ) (l : List ℕ) → r ≡ row_of f.tag → n ≡ length_of f.tag → 3 + n ≤ length out
       → l ≡ sets out 0 (pack (1 ∷ 2 ∷ widths_of r) (f.tag ∷ n ∷ numbers_of f)) → writing (Bytes (3 + n)) l ≡ settled Passed
   unfolding field_bytes
-  room-enough r n l row size h put =
+  room_enough r n l row size h put =
       let m = length-field_bytes f in
       rw (put, row, size, le-leb (length (field_bytes f)) (length out) (omega arith), sets-eq (field_bytes f) out 0 (omega arith), zero-add, m)

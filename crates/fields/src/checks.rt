@@ -6,7 +6,7 @@ ghost use Rattle.fields.specs.Order.{in_order};
 use super::rows::{Row, Slot};
 use super::{Field, RecordedCell, Refusal};
 
-#[derive(Drop)]
+#[derive(Clone, Copy)]
 pub enum Checked {
     Passed,
     Failed(Refusal),

@@ -7,7 +7,7 @@ use super::numbers::u16_at;
 use super::rows::{is_tag, value_length};
 use super::{Field, Refusal};
 
-#[derive(Drop)]
+#[derive(Clone, Copy)]
 pub enum Frame {
     Framed(u8),
     Unframed(Refusal),

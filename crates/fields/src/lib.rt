@@ -1,5 +1,7 @@
 // One field of a log of pointer commands: read at the front of a part of a log, or written at the front of an output.
 // What is right is said in specs/, in the words of docs/01-scope.md; every other crate goes by those definitions.
+#![tactic(auto)]
+
 mod checks;
 mod frame;
 mod numbers;
@@ -43,7 +45,7 @@ impl Log {
 }
 
 // A cell number as a log records it. The cells of a replay have a type of their own.
-#[derive(Drop)]
+#[derive(Clone, Copy)]
 pub struct RecordedCell(pub u16);
 
 impl RecordedCell {
@@ -52,7 +54,7 @@ impl RecordedCell {
 
 // A field: its tag and thread, and the numbers of its tag's row in their order. Of a field that was read, those that the row
 // lacks are 0; of one that is written, they are ignored.
-#[derive(Drop)]
+#[derive(Clone, Copy)]
 pub struct Field {
     pub tag: u8,
     pub thread: u8,
@@ -76,7 +78,7 @@ impl Field {
 }
 
 // Why a log, a field or a buffer is refused, in the order of the numbers of document 01 and of the orders.
-#[derive(Drop)]
+#[derive(Clone, Copy)]
 pub enum Refusal {
     LogTooLong,
     BufferTooShort,
@@ -123,14 +125,14 @@ impl Refusal {
 }
 
 // What one field at the front of a part reads as, with the place of the part in the log: the field's byte offset.
-#[derive(Drop)]
+#[derive(Clone, Copy)]
 pub enum Read {
     Got(Field, u32),
     Refused(Refusal, u32),
 }
 
 // What writing one field did: so many bytes were written, or none.
-#[derive(Drop)]
+#[derive(Clone, Copy)]
 pub enum Written {
     Bytes(usize),
     Refused(Refusal),

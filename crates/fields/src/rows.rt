@@ -5,7 +5,7 @@ ghost use Rattle.fields.specs.Rows.{is_present, is_tag, length_of, row_of, width
 use Slot::{Absent, Data, Pointer, Selector};
 
 // What a one-byte number of a row names: nothing, a pointer variable, a data variable, a selector.
-#[derive(Drop)]
+#[derive(Clone, Copy)]
 pub enum Slot {
     Absent,
     Pointer,
@@ -14,7 +14,7 @@ pub enum Slot {
 }
 
 // After the thread: up to three one-byte numbers, a cell where there is one, a number where there is one.
-#[derive(Drop)]
+#[derive(Clone, Copy)]
 pub struct Row(pub Slot, pub Slot, pub Slot, pub bool, pub bool);
 
 const CELL: bool = true;
@@ -31,6 +31,7 @@ impl Row {
     const LENGTHS: [u8; Row::TAGS] = [1, 8, 2, 3, 4, 4, 3, 3, 6, 3, 3, 3, 3, 4, 4, 4];
 }
 
+#[tactic(auto, unfolding(crate::specs::Rows::is_tag))]
 pub fn is_tag(tag: u8) -> bool
     ensures { result ≡ is_tag tag }
 {
@@ -41,6 +42,7 @@ pub fn is_tag(tag: u8) -> bool
 }
 
 // What the value of each tag holds. A match, for a constant table of structs would be built anew at each call.
+#[tactic(auto, unfolding(crate::specs::Rows::row_of))]
 pub fn row_of(tag: u8) -> Row
     ensures { result ≡ row_of tag }
 {

@@ -1,6 +1,8 @@
 // The lists of the board and the heap, read and stored as the rules say. Every function is total, as the definitions are: what
 // is read past a list's end is unset, 0 or never used, and what is stored there is lost. `change_status` alone asks for something: the
 // number of live cells that it brings along.
+#![tactic(auto)]
+
 mod cells;
 mod lists;
 mod words;

@@ -4,18 +4,21 @@ ghost use Rattle.rules.specs.Words.{after_free, cell_of, invalidated, is_unset, 
 
 use rules::Heap;
 
+#[tactic(auto, unfolding(rules::specs::Words::is_valid))]
 pub fn is_valid(word: u16) -> bool
     ensures { result ≡ is_valid word }
 {
     word < Heap::INVALID
 }
 
+#[tactic(auto, unfolding(rules::specs::Words::cell_of))]
 pub fn cell_of(word: u16) -> u16
     ensures { result ≡ cell_of word }
 {
     word % Heap::INVALID
 }
 
+#[tactic(auto, unfolding(rules::specs::Words::is_unset))]
 pub fn is_unset(word: u16) -> bool
     ensures { result ≡ is_unset word }
 {
@@ -23,6 +26,7 @@ pub fn is_unset(word: u16) -> bool
 }
 
 // The word without its validity. The cell number stays.
+#[tactic(auto, unfolding(rules::specs::Words::invalidated, rules::specs::Words::is_valid))]
 pub fn invalidate(word: u16) -> u16
     ensures { result ≡ invalidated word }
 {
