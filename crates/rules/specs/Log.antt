@@ -20,10 +20,10 @@ no_fields end = record { fields = []; end = end }
 
 -- what was read at the front of bytes, and what the rest of them parses as
 abbrev pub onward : Reading → List ℕ → (List ℕ → Parsed) → Parsed
-onward (Got f) bytes parseRest =
-    let rest = parseRest (drop (header_bytes + length_of f.tag) bytes) in
+onward (Got f) bytes parse_rest =
+    let rest = parse_rest (drop (header_bytes + length_of f.tag) bytes) in
     record { fields = f ∷ rest.fields; end = rest.end }
-onward (Refused r) bytes parseRest = no_fields (unread r)
+onward (Refused r) bytes parse_rest = no_fields (unread r)
 
 abbrev pub parse : ℕ → List ℕ → Parsed
 parse zero [] = no_fields whole

@@ -1,7 +1,7 @@
 -- What is judged: the board, the heap and the tally that the caller lends, how they start, and how they are read and written.
 -- Assumes nothing.
 use Rattle.std.specs.Prelude.{ℕ, ◌*◌, List, get_or, set, replicate}
-use Rattle.fields.specs.Limits.{cells, selectors as selectorsOfCell}
+use Rattle.fields.specs.Limits.{cells, selectors as selectors_of_cell}
 use Rattle.rules.specs.declared.Board.{Board}
 use Rattle.rules.specs.declared.Heap.{Heap}
 use Rattle.rules.specs.declared.Tally.{Tally}
@@ -19,7 +19,7 @@ board_variables = 80
 
 -- cell a's are at 2a and 2a + 1
 abbrev pub heap_selectors : ℕ
-heap_selectors = cells * selectorsOfCell
+heap_selectors = cells * selectors_of_cell
 
 -- ---- the status of a cell
 abbrev pub never_used : ℕ
@@ -40,7 +40,7 @@ pub record State : Type 0 where
   pub numbers : List ℕ
   -- of each cell
   pub status : List ℕ
-  -- of the tally: fields done and mallocs done; its live cells are counted from the statuses (tallyOf, Run.antt)
+  -- of the tally: fields done and mallocs done; its live cells are counted from the statuses (tally_of, Run.antt)
   pub fields : ℕ
   pub mallocs : ℕ
 
@@ -128,7 +128,7 @@ status_of s c = get_or s.status c never_used
 abbrev pub number_at : List ℕ → ℕ → ℕ
 number_at numbers i = get_or numbers i 0
 
--- ---- the word at a place. What takes only a part of the state is said of that part, under a name with In
+-- ---- the word at a place. What takes only a part of the state is said of that part, under a name that ends in _in
 abbrev pub word_in : List ℕ → List ℕ → Place → ℕ
 word_in pointers selectors (PointerWord i) = word_at pointers i
 word_in pointers selectors (SelectorWord i) = word_at selectors i

@@ -1,5 +1,6 @@
 // The types that the rules speak of: what is lent, the paper's expressions and commands, the answers; each with its limits.
 // The rules are the definitions in specs/, in the words of docs/01-scope.md; the code that goes by them is in other crates.
+#![tactic(auto)]
 
 ghost use Rattle.std.specs.Prelude.{◌≡◌};
 ghost use Rattle.rules.specs.State.{fresh_board, fresh_heap, fresh_tally};
@@ -66,7 +67,7 @@ impl Heap {
 }
 
 // Fields done, mallocs done, and the cells that are live.
-#[derive(Drop)]
+#[derive(Clone, Copy)]
 pub struct Tally {
     pub fields: u32,
     pub mallocs: u32,
@@ -86,25 +87,25 @@ impl Tally {
 }
 
 // A cell number of a replay. The matching alone joins it to a recorded cell.
-#[derive(Drop)]
+#[derive(Clone, Copy)]
 pub struct ReplayCell(pub u16);
 
 // p, or p.sel
-#[derive(Drop)]
+#[derive(Clone, Copy)]
 pub enum PExp {
     PointerVariable(u8),
     SelectorOf(u8, u8),
 }
 
 // x, or p.data
-#[derive(Drop)]
+#[derive(Clone, Copy)]
 pub enum DExp {
     DataVariable(u8),
     DataOf(u8),
 }
 
 // What a data expression holds, a constant, or the sum of two data variables.
-#[derive(Drop)]
+#[derive(Clone, Copy)]
 pub enum Value {
     Held(DExp),
     Constant(u32),
@@ -112,7 +113,7 @@ pub enum Value {
 }
 
 // What is asserted: nothing; that two pointers are the same, or (false) that they are not; that two numbers are equal, or not.
-#[derive(Drop)]
+#[derive(Clone, Copy)]
 pub enum Guard {
     Always,
     Same(bool, u8, u8),
@@ -120,7 +121,7 @@ pub enum Guard {
 }
 
 // What is done: nothing; p := malloc, of a cell and with its data; free p; a pointer expression := another; a data expression := a value.
-#[derive(Drop)]
+#[derive(Clone, Copy)]
 pub enum Change {
     Stay,
     Allocate(u8, RecordedCell, u32),
@@ -130,28 +131,28 @@ pub enum Change {
 }
 
 // A command.
-#[derive(Drop)]
+#[derive(Clone, Copy)]
 pub struct Act {
     pub guard: Guard,
     pub change: Change,
 }
 
 // Where a pointer word lies: among the pointer variables, or among the selectors.
-#[derive(Drop)]
+#[derive(Clone, Copy)]
 pub enum Place {
     PointerWord(usize),
     SelectorWord(usize),
 }
 
 // Where a data number lies: among the data variables, or among the cells' numbers.
-#[derive(Drop)]
+#[derive(Clone, Copy)]
 pub enum DataPlace {
     VariableNumber(usize),
     CellNumber(usize),
 }
 
 // What the checks of one field against the heap say: it passes, it races at a variable, or it is refused.
-#[derive(Drop)]
+#[derive(Clone, Copy)]
 pub enum Answer {
     Go,
     Race(u8),
@@ -160,7 +161,7 @@ pub enum Answer {
 
 // What is said of a log: fields, mallocs and live cells; field, thread, variable and byte offset of a race; a refusal met at a field,
 // the field and its byte offset; a refusal of the whole call, which is met at no field.
-#[derive(Drop)]
+#[derive(Clone, Copy)]
 pub enum Verdict {
     Accepted(u32, u32, u32),
     Raced(u32, u8, u8, u32),
@@ -217,7 +218,7 @@ impl Verdict {
 }
 
 // Which of two logs a field is shown of.
-#[derive(Drop)]
+#[derive(Clone, Copy)]
 pub enum Choice {
     Recording,
     Replay,
@@ -225,7 +226,7 @@ pub enum Choice {
 
 // What is said where a field's bytes are asked for: the place in the log where they begin and how many they are, or a refusal and
 // its field.
-#[derive(Drop)]
+#[derive(Clone, Copy)]
 pub enum Shown {
     Part(usize, usize),
     Refused(Refusal, u32),

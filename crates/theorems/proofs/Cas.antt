@@ -73,16 +73,16 @@ module _ (t : ℕ) where
       ∷ []
 
   -- lines 8 and 10 (line 9 passes); lines 11, 12 and 13
-  abbrev popFirst : List Field
-  popFirst = copy_of t top 0 ∷ field_with 4 (t ∷ node ∷ top ∷ 0 ∷ []) ∷ []
+  abbrev pop_first : List Field
+  pop_first = copy_of t top 0 ∷ field_with 4 (t ∷ node ∷ top ∷ 0 ∷ []) ∷ []
 
-  abbrev popThen : List Field
-  popThen = cas_done t 0 top node ∷ field_with 6 (t ∷ top ∷ top ∷ []) ∷ field_with 2 (t ∷ top ∷ []) ∷ []
+  abbrev pop_then : List Field
+  pop_then = cas_done t 0 top node ∷ field_with 6 (t ∷ top ∷ top ∷ []) ∷ field_with 2 (t ∷ top ∷ []) ∷ []
 
 -- thread 0 begins a pop of a = 6, with b = 5 below it; thread 1 pops and frees a, the stack grows by 7, and a is given out again
 -- and pushed; thread 0 goes on with its cas
 abbrev aba : List Field
-aba = push 1 5 ++ (push 1 6 ++ (popFirst 0 ++ (popFirst 1 ++ (popThen 1 ++ (push 1 7 ++ (push 1 6 ++ popThen 0))))))
+aba = push 1 5 ++ (push 1 6 ++ (pop_first 0 ++ (pop_first 1 ++ (pop_then 1 ++ (push 1 7 ++ (push 1 6 ++ pop_then 0))))))
 
 -- that is a race, of thread 0's ptop
 pub aba_races : (run aba fresh).verdict ≡ Raced 27 0 16

@@ -10,7 +10,7 @@ use Rattle.fields.specs.declared.Refusal.{Refusal}
 use Rattle.fields.specs.declared.Refusal.TheVariants.{AssertionFails, LiveCell, TooManyMallocs, UnsetPointer}
 use Rattle.fields.specs.Every.{Every}
 use Rattle.fields.specs.Order.{Test, in_order}
-use Rattle.fields.proofs.Passing.{every_join, in-order-append}
+use Rattle.fields.proofs.Passing.{every_join, in_order_append}
 use Rattle.rules.specs.declared.Guard.{Guard}
 use Rattle.rules.specs.declared.Change.{Change}
 use Rattle.rules.specs.declared.Act.{Act}
@@ -103,7 +103,7 @@ module _ (a : Act) (s : State) where
   -- what the checks come to: the tests for room, then the races, then the others
   pub check-parts : check a s ≡ in_order (λ answer. answer) (in_order (λ answer. answer) (in_order (λ answer. answer) Go others) races) (room_tests a s)
   unfolding check_by
-  check-parts = in-order-append (λ answer. answer) Go (room_tests a s) (races ++ others) ∙ ap (λ (done : Answer). in_order (λ answer. answer) done (room_tests a s)) (in-order-append (λ answer. answer) Go races others)
+  check-parts = in_order_append (λ answer. answer) Go (room_tests a s) (races ++ others) ∙ ap (λ (done : Answer). in_order (λ answer. answer) done (room_tests a s)) (in_order_append (λ answer. answer) Go races others)
 
   -- a race is said by the tests for races alone
   by-races : (v : ℕ) → check a s ≡ Race v → (in_order (λ answer. answer) Go others ≡ Race v → ⊥) × (in_order (λ answer. answer) (in_order (λ answer. answer) Go others) races ≡ Race v)

@@ -203,19 +203,19 @@ module _ (s : State) (c : ℕ) (z : Sized s) (T : Traced (word s) (status_of s))
   dval-free (data_var x) = unfold free in refl
   dval-free (data_of a) = unfold free in (ap (λ (b : Bool). cond b (defined (number_at s.numbers a)) undefined) (free-there (next_of a next₀)))
 
-  valid-afterFree : (w : ℕ) → is_valid (after_free c w) ≡ is_valid w && not (eqb c (cell_of w) || false)
+  valid-after_free : (w : ℕ) → is_valid (after_free c w) ≡ is_valid w && not (eqb c (cell_of w) || false)
   unfolding after_free
-  valid-afterFree w = split (eqb c (cell_of w))
+  valid-after_free w = split (eqb c (cell_of w))
       (λ t. rw (t, valid-invalidated w) (sym (and-false (is_valid w))))
       (λ t. rw t (sym (and-true (is_valid w))))
 
   pub mark-free : (e : PExp) → valid_of (free c s) e ≡ valid_of s e && not (points_to (pval_of s e) c || is_next_of c e)
-  mark-free (pointer_var p) = rw (points_to_lem s c T hc (pointer_var p), word-free s c (PointerWord p) z hc) (valid-afterFree (pointer s p))
+  mark-free (pointer_var p) = rw (points_to_lem s c T hc (pointer_var p), word-free s c (PointerWord p) z hc) (valid-after_free (pointer s p))
   mark-free (next_of a i) =
       let x = SelectorWord (2 * a + index i) in
       rw (points_to_lem s c T hc (next_of a i), word-free s c x z hc, half a i) (split (eqb c a)
       (λ t. rw (t, eqb_turn a c, t, or-true (eqb c (cell_of (word s x))), valid-invalidated (word s x)) (sym (and-false (is_valid (word s x)))))
-      (λ t. rw (t, eqb_turn a c, t) (valid-afterFree (word s x))))
+      (λ t. rw (t, eqb_turn a c, t) (valid-after_free (word s x))))
 
   pub freed-free : (a : ℕ) → freed_of (free c s) a ≡ freed_of s a || eqb c a
   freed-free a = rw (free-status a) (split (eqb c a)

@@ -47,21 +47,21 @@ module _ {P : ℕ → Type 0} (C : Closed P) where
   words-write (SelectorWord i) w s p h (PointerWord j) = h (PointerWord j)
   words-write (SelectorWord i) w s p h (SelectorWord j) = in_set P s.selectors i j w unset p (h (SelectorWord j))
 
-  words-changeWord : (f : ℕ → ℕ) (i : ℕ) (l : List ℕ) → ((w : ℕ) → P w → P (f w)) → ((j : ℕ) → P (word_at l j)) → (j : ℕ) → P (word_at (change_word f i l) j)
-  words-changeWord f i l k q j = in_set P l i j (f (word_at l i)) unset (k (word_at l i) (q i)) (q j)
+  words-change_word : (f : ℕ → ℕ) (i : ℕ) (l : List ℕ) → ((w : ℕ) → P w → P (f w)) → ((j : ℕ) → P (word_at l j)) → (j : ℕ) → P (word_at (change_word f i l) j)
+  words-change_word f i l k q j = in_set P l i j (f (word_at l i)) unset (k (word_at l i) (q i)) (q j)
 
-  words-changeOwn : (f : ℕ → ℕ) (c : ℕ) (l : List ℕ) → ((w : ℕ) → P w → P (f w)) → ((j : ℕ) → P (word_at l j)) → (j : ℕ) → P (word_at (change_own f c l) j)
-  words-changeOwn f c l k q = words-changeWord f (2 * c + 1) (change_word f (2 * c) l) k (words-changeWord f (2 * c) l k q)
+  words-change_own : (f : ℕ → ℕ) (c : ℕ) (l : List ℕ) → ((w : ℕ) → P w → P (f w)) → ((j : ℕ) → P (word_at l j)) → (j : ℕ) → P (word_at (change_own f c l) j)
+  words-change_own f c l k q = words-change_word f (2 * c + 1) (change_word f (2 * c) l) k (words-change_word f (2 * c) l k q)
 
   words-free : (c : ℕ) (s : State) → Words P s → Words P (free c s)
   unfolding free
   words-free c s h (PointerWord j) = in_map P (after_free c) s.pointers j unset (after c) (h (PointerWord j))
-  words-free c s h (SelectorWord j) = words-changeOwn invalidated c (map (after_free c) s.selectors) C.invalidates (λ i. in_map P (after_free c) s.selectors i unset (after c) (h (SelectorWord i))) j
+  words-free c s h (SelectorWord j) = words-change_own invalidated c (map (after_free c) s.selectors) C.invalidates (λ i. in_map P (after_free c) s.selectors i unset (after c) (h (SelectorWord i))) j
 
   words-give : (p c d : ℕ) (s : State) → c < 1024 → Words P s → Words P (give p c d s)
   unfolding give
   words-give p c d s hc h (PointerWord j) = in_set P s.pointers p j c unset (C.cell c hc) (h (PointerWord j))
-  words-give p c d s hc h (SelectorWord j) = either (λ (l : List ℕ). P (word_at l j)) (eqb (status_of s c) never_used) (words-changeOwn (λ w. unset) c s.selectors (λ w q. C.unset) (λ i. h (SelectorWord i)) j) (h (SelectorWord j))
+  words-give p c d s hc h (SelectorWord j) = either (λ (l : List ℕ). P (word_at l j)) (eqb (status_of s c) never_used) (words-change_own (λ w. unset) c s.selectors (λ w q. C.unset) (λ i. h (SelectorWord i)) j) (h (SelectorWord j))
 
   words-apply : (c : Change) (s : State) → Named c → Words P s → Words P (apply c s)
   unfolding store

@@ -24,7 +24,7 @@ use Rattle.fields.specs.Refusals.{number_of}
 use Rattle.fields.specs.Rows.{is_tag, length_of, row_of, widths_of}
 use Rattle.fields.specs.Write.{field_bytes}
 use Rattle.fields.proofs.Digits.{length_to_bytes}
-use Rattle.fields.proofs.Passing.{all-passed, either, in-order-append, taken}
+use Rattle.fields.proofs.Passing.{all_passed, either, in_order_append, taken}
 use Rattle.fields.proofs.RoundTrip.{Readable, there}
 use Rattle.fields.proofs.Tags.{tag_below}
 use Rattle.fields.proofs.Writing.{length-field_bytes}
@@ -66,7 +66,7 @@ got_field : (s : List ℕ) (f : Field) → read_field s ≡ Got f → field_of (
 unfolding read_field
 got_field s f e =
     let g = field_of (tag_in s) (value_in s) in
-    let p = all-passed Unread (Got g) (framing_checks s ++ value_checks (row_of (tag_in s)) g) (Got f) (λ r q. let z : ◌≡◌ {A = ℕ} 0 1 = cc in omega arith) e in
+    let p = all_passed Unread (Got g) (framing_checks s ++ value_checks (row_of (tag_in s)) g) (Got f) (λ r q. let z : ◌≡◌ {A = ℕ} 0 1 = cc in omega arith) e in
     let q : Got g ≡ Got f = p.1 in
     cc
 
@@ -230,7 +230,7 @@ room_left : (a : Act) (s : State) (x : Answer) → s.mallocs ≤ log_mallocs →
 unfolding check_by
 room_left a s x h n e =
     let rest = each (valid s) Race (touched a) ++ (set_tests a s ++ (vacancy_tests a s ++ guard_tests a s)) in
-    let first = sym (in-order-append (λ (y : Answer). y) Go (room_tests a s) rest) ∙ e in
+    let first = sym (in_order_append (λ (y : Answer). y) Go (room_tests a s) rest) ∙ e in
     room_clear a.change s h (clear_tests s (gives a.change) (in_order (λ y. y) Go rest) x n first)
 
 not_go : Refuse TooManyMallocs ≡ Go → ⊥
@@ -280,7 +280,7 @@ pub shown_starts : (log : List ℕ) (n at size : ℕ) → shown_in log n ≡ Par
 unfolding shown_in
 shown_starts log n at size e =
     let whole = Part (offset_of n log) (size_in (from n log)) in
-    let p = all-passed (λ r. Refused r 0) whole
+    let p = all_passed (λ r. Refused r 0) whole
     (test (leb (length log) log_bytes) LogTooLong ∷ test (ltb n (length (fields_read log))) FieldNotReached ∷ [])
     (Part at size) (λ r q. let z : ◌≡◌ {A = ℕ} 0 1 = cc in omega arith) e in
     let same : whole ≡ Part at size = p.1 in
