@@ -7,9 +7,9 @@ use lib.Dec.{T}
 use lib.ListN.{length, take}
 use lib.Seq.{length-take-le, take-append-add, take-append-le}
 use mathlib.Core.Bool.{true, false}
-use mathlib.Core.List.{List, [], ◌∷◌, ◌++◌, append-nil}
+use mathlib.Core.List.{List, ◌∷◌, ◌++◌, append-nil}
 use mathlib.Core.Logic.{inl}
-use mathlib.Core.Path.{◌≡◌, refl, sym, ap, subst, ◌∙◌}
+use mathlib.Core.Path.{◌≡◌, sym, ap, subst, ◌∙◌}
 use Rattle.streams.proofs.Bounds.{stops_dry}
 use Rattle.streams.specs.Answers.{AllGoOn, moved_of, stops}
 use Rattle.streams.specs.Reading.{Call, ReadsBy, StopsBy, answer, answers, brought, stop_of}

@@ -6,11 +6,11 @@ use lib.ListN.{length, take}
 use lib.Seq.{length-take-le}
 use mathlib.Core.Bool.{Bool, true, false}
 use mathlib.Core.List.{List, [], ◌∷◌}
-use mathlib.Core.Logic.{◌⊎◌, inl, inr}
+use mathlib.Core.Logic.{inl, inr}
 use mathlib.Core.Path.{◌≡◌, refl, sym, ap, subst, ◌∙◌}
 use native.Mathlib.Omega.{arith}
 use Rattle.streams.specs.Answers.{AllGoOn, calls, stops}
-use Rattle.streams.specs.Reading.{Call, Last, StopsBy, answer, answers, brought}
+use Rattle.streams.specs.Reading.{Call, Last, StopsBy, answers, brought}
 use Rattle.streams.specs.declared.answers.Answer.{Answer}
 use Rattle.streams.specs.declared.answers.Answer.TheVariants.{Moved, Nothing, Interrupted, Failed}
 use Rattle.streams.specs.declared.reading.Stop.{Stop}

@@ -1,9 +1,15 @@
-// What one answer of `libc::read` or `libc::write` means.
-ghost use Rattle.streams.specs.Answers.{answer_of, moved_of, stops};
+// What one answer of the system to a read or a write means.
+ghost use Rattle.streams.specs.Answers.{answer_of, errno_in, errno_of, IsCounted, moved_of, number_in, stops};
 ghost use Rattle.std.specs.Prelude.{◌≡◌};
 
+use std::io;
+use std::io::ErrorKind;
+
+// The number that POSIX calls EINTR.
+const EINTR: i32 = 4;
+
 // So many bytes were moved; none, which of a read says that the input has ended; a signal came before any was moved; the call failed.
-#[derive(Drop)]
+#[derive(Clone, Copy)]
 pub enum Answer {
     Moved(usize),
     Nothing,
@@ -21,10 +27,34 @@ pub fn answer_of(got: isize, error: i32) -> Answer
     if got == 0 {
         return Answer::Nothing;
     }
-    if error == libc::EINTR {
+    if error == EINTR {
         return Answer::Interrupted;
     }
     Answer::Failed
+}
+
+// The `errno` that stands for an error: the system's number, and EINTR for each error that says that a signal came.
+fn errno_of(error: io::Error) -> i32
+    ensures { result ≡ errno_of error }
+{
+    match error.kind() {
+        ErrorKind::Interrupted => EINTR,
+        _ => match error.raw_os_error() {
+            Some(code) => code,
+            None => 0,
+        },
+    }
+}
+
+// The answer, as a reader or a writer of std gives it.
+pub fn answer_to(got: io::Result<usize>) -> Answer
+    requires { IsCounted got }
+    ensures { result ≡ answer_of (number_in got) (errno_in got) }
+{
+    match got {
+        Ok(count) => answer_of(count as isize, 0),
+        Err(error) => answer_of(-1, errno_of(error)),
+    }
 }
 
 // Whether no more is to come.

@@ -1,5 +1,7 @@
-// Reading that ends where the input's end was seen, and writing that is whole. The kit's `io::read_full` takes a read that failed for
-// the end, and `io` takes a call that a signal interrupted for one that failed; here neither is so.
+// Reading that ends where the input's end was seen, and writing that is whole. Of std's own `read_exact` and `write_all` no clause
+// says what they did where they fail, and `read_to_end` has no room that it keeps to; here each answer of the system is told apart.
+#![tactic(auto)]
+
 mod answers;
 mod reading;
 mod writing;
@@ -9,3 +11,6 @@ pub use writing::write_whole;
 
 // More calls than any input or output takes. One that takes so many has failed.
 const CALLS: u64 = 0xffff_ffff_ffff_ffff;
+
+#[cfg(test)]
+mod tests;

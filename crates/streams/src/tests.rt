@@ -1,0 +1,181 @@
+// What no clause can say: that a call can succeed, and that a read or a write which fails or is interrupted in mid-stream is told
+// apart from an end.
+use super::{Filled, is_full, read_into, write_whole};
+use std::io;
+use std::io::{ErrorKind, Read, Write};
+
+// What one call of the fakes below does.
+#[derive(Clone, Copy)]
+enum Turn {
+    Moves(usize),
+    IsInterrupted,
+    Fails(i32),
+}
+
+// A reader whose calls go as its turns say, and which has ended after them; each byte tells which call brought it.
+#[derive(Drop)]
+struct Reader {
+    turns: [Turn; 4],
+    at: usize,
+}
+
+impl Read for Reader {
+    fn read(&mut self, buf: &mut [u8]) -> io::Result<usize> {
+        if self.at >= 4 {
+            return Ok(0);
+        }
+        let turn = self.turns[self.at];
+        self.at += 1;
+        match turn {
+            Turn::Moves(most) => {
+                let count = most.min(buf.len());
+                for byte in buf[..count].iter_mut() {
+                    *byte = self.at as u8;
+                }
+                Ok(count)
+            }
+            Turn::IsInterrupted => Err(io::Error::from(ErrorKind::Interrupted)),
+            Turn::Fails(code) => Err(io::Error::from_raw_os_error(code)),
+        }
+    }
+}
+
+// A writer whose calls go as its turns say, and which takes nothing after them.
+#[derive(Drop)]
+struct Writer {
+    turns: [Turn; 4],
+    at: usize,
+    taken: usize,
+}
+
+impl Write for Writer {
+    fn write(&mut self, buf: &[u8]) -> io::Result<usize> {
+        if self.at >= 4 {
+            return Ok(0);
+        }
+        let turn = self.turns[self.at];
+        self.at += 1;
+        match turn {
+            Turn::Moves(most) => {
+                let count = most.min(buf.len());
+                self.taken = self.taken.saturating_add(count);
+                Ok(count)
+            }
+            Turn::IsInterrupted => Err(io::Error::from_raw_os_error(4)),
+            Turn::Fails(code) => Err(io::Error::from_raw_os_error(code)),
+        }
+    }
+
+    fn flush(&mut self) -> io::Result<()> {
+        Ok(())
+    }
+}
+
+fn read_by(turns: [Turn; 4], bytes: &mut [u8]) -> Filled {
+    read_into(&mut Reader { turns, at: 0 }, bytes)
+}
+
+// The system's number of the error, or 0.
+fn code_in(error: Option<io::Error>) -> i32 {
+    match error {
+        Some(error) => error.raw_os_error().unwrap_or(0),
+        None => 0,
+    }
+}
+
+#[test]
+fn reads_to_an_end_that_was_seen(rt: HostRuntime) {
+    let mut bytes = [0u8; 6];
+    let turns = [
+        Turn::Moves(2),
+        Turn::IsInterrupted,
+        Turn::Moves(1),
+        Turn::Moves(0),
+    ];
+    let read = read_by(turns, &mut bytes);
+    assert_eq!(rt; read.length, 3);
+    assert!(rt; matches!(read.stop, super::Stop::Ended));
+    assert!(rt; read.error.is_none());
+    assert_eq!(rt; bytes, [1, 1, 3, 0, 0, 0]);
+}
+
+#[test]
+fn reads_until_full(rt: HostRuntime) {
+    let mut bytes = [0u8; 6];
+    let turns = [
+        Turn::IsInterrupted,
+        Turn::Moves(4),
+        Turn::Moves(4),
+        Turn::Fails(5),
+    ];
+    let read = read_by(turns, &mut bytes);
+    assert_eq!(rt; read.length, 6);
+    assert!(rt; is_full(read.stop));
+    assert!(rt; read.error.is_none());
+    assert_eq!(rt; bytes, [2, 2, 2, 2, 3, 3]);
+}
+
+#[test]
+fn takes_no_failure_for_an_end(rt: HostRuntime) {
+    let mut bytes = [0u8; 6];
+    let turns = [
+        Turn::Moves(2),
+        Turn::Moves(1),
+        Turn::Fails(21),
+        Turn::Moves(0),
+    ];
+    let read = read_by(turns, &mut bytes);
+    assert_eq!(rt; read.length, 3);
+    assert!(rt; matches!(read.stop, super::Stop::Broken));
+    assert_eq!(rt; code_in(read.error), 21);
+    assert_eq!(rt; bytes, [1, 1, 2, 0, 0, 0]);
+}
+
+#[test]
+fn writes_whole(rt: HostRuntime) {
+    let turns = [
+        Turn::Moves(2),
+        Turn::IsInterrupted,
+        Turn::Moves(1),
+        Turn::Moves(9),
+    ];
+    let mut writer = Writer {
+        turns,
+        at: 0,
+        taken: 0,
+    };
+    assert!(rt; write_whole(&mut writer, b"abcdef").is_ok());
+    assert_eq!(rt; writer.taken, 6);
+}
+
+#[test]
+fn tells_a_failed_write(rt: HostRuntime) {
+    let turns = [
+        Turn::Moves(2),
+        Turn::Fails(28),
+        Turn::Moves(4),
+        Turn::Moves(4),
+    ];
+    let mut writer = Writer {
+        turns,
+        at: 0,
+        taken: 0,
+    };
+    let put = write_whole(&mut writer, b"abcdef");
+    assert_eq!(rt; code_in(put.err()), 28);
+    assert_eq!(rt; writer.taken, 2);
+    let turns = [
+        Turn::Moves(1),
+        Turn::Moves(1),
+        Turn::Moves(1),
+        Turn::Moves(1),
+    ];
+    let mut writer = Writer {
+        turns,
+        at: 0,
+        taken: 0,
+    };
+    let put = write_whole(&mut writer, b"abcdef");
+    assert!(rt; matches!(put, Err(error) if error.kind() == ErrorKind::WriteZero));
+    assert_eq!(rt; writer.taken, 4);
+}
