@@ -1,8 +1,8 @@
 /* Thawhazel from C: a verified judge of logs of pointer commands.
  *
  * What a log is, what each command does and what each answer means is said in docs/01-scope.md; what each call returns and
- * leaves, for every input, is said in crates/capi/specs and proved. Link with libcapi.a, which `rt staticlib capi` writes to
- * target/staticlib. The library keeps nothing between calls, takes no memory, and calls nothing but memcpy and memset.
+ * leaves, for every input, is said in crates/capi/specs and proved. Link with libcapi.a, which `rt lib` in crates/capi writes to
+ * crates/capi/out. The library keeps nothing between calls, takes no memory, and calls nothing but memcpy and memset.
  *
  * Every buffer is two arguments: a pointer to its first element, and its length in elements (not in bytes). A pointer is never
  * null, is aligned for its type, and points to that many elements; buffers of one call do not overlap. The proofs take this for

@@ -8,21 +8,21 @@ either_way true w = refl
 either_way false w = refl
 
 module _ (cell word : ℕ) where
-  by-valid-here : (t : Bool) → ltb cell invalid ≡ t → cond t (cell + invalid) cell ≡ cond (eqb cell (cell % invalid)) (cond t (cell + invalid) cell) cell
-  by-valid-here true q = rw (eq-eqb cell (cell % invalid) (omega (arith, ltb-true cell invalid q)))
-  by-valid-here false q = either_way (eqb cell (cell % invalid)) cell
+  by_valid_here : (t : Bool) → ltb cell invalid ≡ t → cond t (cell + invalid) cell ≡ cond (eqb cell (cell % invalid)) (cond t (cell + invalid) cell) cell
+  by_valid_here true q = rw (eq-eqb cell (cell % invalid) (omega (arith, ltb-true cell invalid q)))
+  by_valid_here false q = either_way (eqb cell (cell % invalid)) cell
 
-  pub freed-here : word ≡ cell → invalidated cell ≡ after_free cell word
+  pub freed_here : word ≡ cell → invalidated cell ≡ after_free cell word
   unfolding after_free invalidated is_valid cell_of
-  freed-here e = rw e (by-valid-here (ltb cell invalid) refl)
+  freed_here e = rw e (by_valid_here (ltb cell invalid) refl)
 
-  by-valid-elsewhere : (t : Bool) → ltb word invalid ≡ t → (word ≡ cell → ⊥) → word ≡ cond (eqb cell (word % invalid)) (cond t (word + invalid) word) word
-  by-valid-elsewhere true q other = rw (ne_eqb cell (word % invalid) (λ same. other (omega (arith, same, ltb-true word invalid q))))
-  by-valid-elsewhere false q other = either_way (eqb cell (word % invalid)) word
+  by_valid_elsewhere : (t : Bool) → ltb word invalid ≡ t → (word ≡ cell → ⊥) → word ≡ cond (eqb cell (word % invalid)) (cond t (word + invalid) word) word
+  by_valid_elsewhere true q other = rw (ne_eqb cell (word % invalid) (λ same. other (omega (arith, same, ltb-true word invalid q))))
+  by_valid_elsewhere false q other = either_way (eqb cell (word % invalid)) word
 
-  pub freed-elsewhere : (word ≡ cell → ⊥) → word ≡ after_free cell word
+  pub freed_elsewhere : (word ≡ cell → ⊥) → word ≡ after_free cell word
   unfolding after_free invalidated is_valid cell_of
-  freed-elsewhere other = by-valid-elsewhere (ltb word invalid) refl other
+  freed_elsewhere other = by_valid_elsewhere (ltb word invalid) refl other
 
 -- ---- what a free adds to the number of its cell
 by_valid_above : (t : Bool) (word : ℕ) → ltb word invalid ≡ t → word < 65536 → (word ≤ cond t (word + invalid) word) × (cond t (word + invalid) word < 65536)

@@ -11,9 +11,9 @@ module _ (recorded replay : List ℕ) (choice : Choice) (n : ℕ) where
   pub one_answer : (a a' : Shown) → a ≡ shown_in (chosen choice recorded replay) n → a' ≡ shown_in (chosen choice recorded replay) n → a ≡ a'
   one_answer a a' e e' = e ∙ sym e'
 
-  pub one-part : (p p' : List ℕ) → p ≡ part_in (chosen choice recorded replay) n → p' ≡ part_in (chosen choice recorded replay) n → p ≡ p'
-  one-part p p' e e' = e ∙ sym e'
+  pub one_part : (p p' : List ℕ) → p ≡ part_in (chosen choice recorded replay) n → p' ≡ part_in (chosen choice recorded replay) n → p ≡ p'
+  one_part p p' e e' = e ∙ sym e'
 
-  pub part-of-answer : (a : Shown) (p : List ℕ) → a ≡ shown_in (chosen choice recorded replay) n → p ≡ part_in (chosen choice recorded replay) n
+  pub part_of_answer : (a : Shown) (p : List ℕ) → a ≡ shown_in (chosen choice recorded replay) n → p ≡ part_in (chosen choice recorded replay) n
       → p ≡ part_by a (chosen choice recorded replay)
-  part-of-answer a p e q = rw e q
+  part_of_answer a p e q = rw e q

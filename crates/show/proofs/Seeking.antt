@@ -7,18 +7,17 @@ use lib.Dec.{leb, ltb}
 use lib.ListN.{drop, drop_of_length-le, length, length-drop}
 use lib.Seq.{drop-drop}
 use mathlib.Core.Bool.{Bool, true, false, cond}
-use mathlib.Core.List.{List, [], ◌∷◌, ◌++◌}
+use mathlib.Core.List.{List, [], ◌∷◌}
 use mathlib.Core.Path.{◌≡◌, refl, ap, sym, ◌∙◌}
 use native.Mathlib.Nat.{le_of_suc-le-suc, not-suc-le-zero, zero-add}
 use native.Mathlib.Omega.{arith}
-use Rattle.fields.proofs.Passing.{all-passed, either}
+use Rattle.fields.proofs.Passing.{all_passed, either}
 use Rattle.fields.specs.declared.Field.{Field}
 use Rattle.fields.specs.declared.Refusal.TheVariants.{FieldNotReached, LogTooLong}
-use Rattle.fields.specs.Checks.{value_checks}
 use Rattle.fields.specs.Limits.{header_bytes, log_bytes, log_fields, log_mallocs}
 use Rattle.fields.specs.Order.{test}
-use Rattle.fields.specs.Read.{Got, Reading, Refused as Unread, field_of, framing_checks, read_field, tag_in, value_in}
-use Rattle.fields.specs.Rows.{length_of, row_of}
+use Rattle.fields.specs.Read.{Got, Reading, Refused as Unread, read_field}
+use Rattle.fields.specs.Rows.{length_of}
 use Rattle.judge.proofs.Running.{got_passed, some_left}
 use Rattle.rules.specs.declared.Shown.{Shown}
 use Rattle.rules.specs.declared.Shown.TheVariants.{Part, Refused}
@@ -113,14 +112,14 @@ module _ (k before : ℕ) (log : List ℕ) (at : ℕ) (within : at < length log)
   some : 0 < length (drop at log)
   some = some_left log at within
 
-  turn-stops : (n : ℕ) → front_of before (read_field (drop at log)) ≡ Stop → Refused FieldNotReached 0 ≡ seek_from (suc k) before log at n
+  turn_stops : (n : ℕ) → front_of before (read_field (drop at log)) ≡ Stop → Refused FieldNotReached 0 ≡ seek_from (suc k) before log at n
   unfolding seek_from
-  turn-stops n e = rw (count_some k before (drop at log) some, e, le-ltb n 0 (omega arith))
+  turn_stops n e = rw (count_some k before (drop at log) some, e, le-ltb n 0 (omega arith))
 
   module _ (size mallocs : ℕ) (e : front_of before (read_field (drop at log)) ≡ Whole size mallocs) where
-    turn-finds : Part at size ≡ seek_from (suc k) before log at 0
+    turn_finds : Part at size ≡ seek_from (suc k) before log at 0
     unfolding seek_from
-    turn-finds =
+    turn_finds =
         let none : at + 0 ≡ at = omega arith in
         rw (
           count_some k before (drop at log) some,
@@ -129,9 +128,9 @@ module _ (k before : ℕ) (log : List ℕ) (at : ℕ) (within : at < length log)
           (fronted (drop at log) before size mallocs e).told,
         ) (ap (λ (n : ℕ). Part n (size_in (drop at log))) (sym none))
 
-    turn-passes : (n : ℕ) → seek_from k mallocs log (at + size) n ≡ seek_from (suc k) before log at (suc n)
+    turn_passes : (n : ℕ) → seek_from k mallocs log (at + size) n ≡ seek_from (suc k) before log at (suc n)
     unfolding seek_from
-    turn-passes n =
+    turn_passes n =
         let rest = drop at log in
         let later = drop (at + size) log in
         let o = offset_of n later in
@@ -143,14 +142,14 @@ module _ (k before : ℕ) (log : List ℕ) (at : ℕ) (within : at < length log)
   -- ---- the loop: what is sought from here on is what is sought from the start
   module _ (fuel n : ℕ) (o : Shown) (enough : fuel ≡ suc k) (whole : seek_from fuel before log at n ≡ o) where
     pub stopped : front_of before (read_field (drop at log)) ≡ Stop → Refused FieldNotReached 0 ≡ o
-    stopped e = turn-stops n e ∙ (rw enough at whole)
+    stopped e = turn_stops n e ∙ (rw enough at whole)
 
     module _ (size mallocs : ℕ) (e : front_of before (read_field (drop at log)) ≡ Whole size mallocs) where
       pub found : n ≡ 0 → Part at size ≡ o
-      found here = turn-finds size mallocs e ∙ (rw (here, enough) at whole)
+      found here = turn_finds size mallocs e ∙ (rw (here, enough) at whole)
 
       pub passed : (m : ℕ) → n ≡ suc m → seek_from k mallocs log (at + size) m ≡ o
-      passed m later = turn-passes size mallocs e m ∙ (rw (later, enough) at whole)
+      passed m later = turn_passes size mallocs e m ∙ (rw (later, enough) at whole)
 
 -- ---- what is found lies within the log
 lies : (k before : ℕ) (b : List ℕ) (n : ℕ) → n < count k before b → offset_of n b + size_in (drop (offset_of n b) b) ≤ length b
@@ -179,7 +178,7 @@ pub within : (log : List ℕ) (n at size : ℕ) → shown_in log n ≡ Part at s
 unfolding shown_in
 within log n at size e =
     let whole = Part (offset_of n log) (size_in (drop (offset_of n log) log)) in
-    let p = all-passed (λ r. Refused r 0) whole
+    let p = all_passed (λ r. Refused r 0) whole
     (test (leb (length log) log_bytes) LogTooLong ∷ test (ltb n (length (fields_read log))) FieldNotReached ∷ [])
     (Part at size) (λ r q. let z : ◌≡◌ {A = ℕ} 0 1 = cc in omega arith) e in
     let same : whole ≡ Part at size = p.1 in

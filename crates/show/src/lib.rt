@@ -1,5 +1,7 @@
 // One field's own bytes, header and value, of a recorded log or of its replay: a part of the log that is chosen, without a copy.
 // The answer and the part are two calls, of one definition: an enum of Rattle holds no reference.
+#![tactic(auto)]
+
 mod seek;
 
 ghost use Rattle.std.specs.Prelude.{◌≡◌};

@@ -1,5 +1,7 @@
 // Judging and replaying over a tally that the caller lends, brought forward at each field: thin calls over the by-value core, the
 // crate judge. Their contracts are the core's, with the tally read and left behind the reference.
+#![tactic(auto)]
+
 ghost use Rattle.judge.specs.Judges.{Judges};
 ghost use Rattle.judge.specs.Replays.{Replays};
 

@@ -28,31 +28,31 @@ module _ (t p q r : ℕ) where
   denied = field_with 10 (t ∷ p ∷ q ∷ [])
 
   -- done, which is both commands of the paper in a row
-  pub done-checks : (s : State) → check (act_of (cas_done t p q r)) s ≡ check (act_of asserted) s
+  pub done_checks : (s : State) → check (act_of (cas_done t p q r)) s ≡ check (act_of asserted) s
   unfolding command_of check_by
-  done-checks s = refl
+  done_checks s = refl
 
-  pub done-acts : (s : State) → effect (act_of (cas_done t p q r)) s ≡ effect (act_of (copy_of t p r)) s
+  pub done_acts : (s : State) → effect (act_of (cas_done t p q r)) s ≡ effect (act_of (copy_of t p r)) s
   unfolding command_of
-  done-acts s = refl
+  done_acts s = refl
 
-  pub done-takes : Takes (act_of (cas_done t p q r)) (Assert (same_pointers p q) ∷ Copy p r ∷ [])
+  pub done_takes : Takes (act_of (cas_done t p q r)) (Assert (same_pointers p q) ∷ Copy p r ∷ [])
   unfolding command_of
-  done-takes = both says_same says_copy refl
+  done_takes = both says_same says_copy refl
 
   -- the copy after the assertion passes, and leaves what done leaves, with one field more
-  pub copy-passes : (s : State) → check (act_of (copy_of t p r)) (effect (act_of asserted) s) ≡ Go
+  pub copy_passes : (s : State) → check (act_of (copy_of t p r)) (effect (act_of asserted) s) ≡ Go
   unfolding command_of check_by
-  copy-passes s = refl
+  copy_passes s = refl
 
-  pub done-in-a-row : (s : State) → effect (act_of (copy_of t p r)) (effect (act_of asserted) s) ≡ count_field (effect (act_of (cas_done t p q r)) s)
+  pub done_in_a_row : (s : State) → effect (act_of (copy_of t p r)) (effect (act_of asserted) s) ≡ count_field (effect (act_of (cas_done t p q r)) s)
   unfolding command_of count_field write
-  done-in-a-row s = refl
+  done_in_a_row s = refl
 
   -- failed
-  pub failed-is : act_of (cas_failed t p q r) ≡ act_of denied
+  pub failed_is : act_of (cas_failed t p q r) ≡ act_of denied
   unfolding command_of
-  failed-is = refl
+  failed_is = refl
 
 -- ---- Treiber's stack, its top (pTop) in p0; thread t has ptop in 16 + 8t, pnode in 17 + 8t, and v in its first data variable
 module _ (t : ℕ) where

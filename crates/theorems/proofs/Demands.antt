@@ -10,9 +10,9 @@ use Rattle.rules.specs.Run.{Accepted, Outcome}
 use Rattle.rules.specs.Log.{parse, run_bytes}
 use Rattle.rules.specs.Plain.{Distinct, given_by, run_plain_bytes}
 use Rattle.theorems.proofs.Kept.{Inv, inv_fresh, keep}
-use Rattle.theorems.proofs.Ranges.{Bounded, Ranged, Words, bounded_effect, bounded_fresh, ranged, words-effect, words-fresh}
+use Rattle.theorems.proofs.Ranges.{Bounded, Ranged, Words, bounded_effect, bounded_fresh, ranged, words_effect, words_fresh}
 use Rattle.theorems.proofs.Unmarked.{plain_outcome, unmarked_outcome}
-use Rattle.theorems.proofs.Logs.{ReplayOf, kept-log, replay_of, taken_named}
+use Rattle.theorems.proofs.Logs.{ReplayOf, kept_log, replay_of, taken_named}
 
 -- demand 3, which is source 004's Theorem 1 (PRF Guarantee) in the direction that its Proposition 1 gives: a memory-managed run
 -- without a pointer race has a run in which no cell is given out twice, and the valid parts of their heaps are the same up to the
@@ -32,11 +32,11 @@ same_verdict log b d =
 -- Lemma 2 of source 004: in every state that a log leaves, accepted or stopped, a valid word that is set points to a live cell, and
 -- both selectors of a freed cell are not valid
 pub lemma2 : (log : List ℕ) → AreBytes log → Inv (run_bytes log_fields log fresh).state
-lemma2 log b = kept-log Inv (λ a s n small e v. keep a s v n.1 e) log_fields log b inv_fresh
+lemma2 log b = kept_log Inv (λ a s n small e v. keep a s v n.1 e) log_fields log b inv_fresh
 
 -- every word of such a state is in its range, and so is every number
 pub words_in_range : (log : List ℕ) → AreBytes log → Words Ranged (run_bytes log_fields log fresh).state
-words_in_range log b = kept-log (Words Ranged) (λ a s n small e v. words-effect ranged a s n.1 v) log_fields log b (words-fresh ranged)
+words_in_range log b = kept_log (Words Ranged) (λ a s n small e v. words_effect ranged a s n.1 v) log_fields log b (words_fresh ranged)
 
 pub numbers_in_range : (log : List ℕ) → AreBytes log → Bounded (run_bytes log_fields log fresh).state
-numbers_in_range log b = kept-log Bounded (λ a s n small e v. bounded_effect a s small v) log_fields log b bounded_fresh
+numbers_in_range log b = kept_log Bounded (λ a s n small e v. bounded_effect a s small v) log_fields log b bounded_fresh

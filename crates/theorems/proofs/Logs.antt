@@ -144,8 +144,8 @@ module _ (P : State → Type 0) (keeps : (a : Act) (s : State) → NamedAct a �
       kept_next (check (act_of f) s) f s (run_to end fs (effect (act_of f) s)) p
       (λ e. kept_run end fs (effect (act_of f) s) a.1 (keeps (act_of f) s (readable_named f a.0) (readable_small f a.0) e p))
 
-  pub kept-log : (n : ℕ) (log : List ℕ) → AreBytes log → P fresh → P (run_bytes n log fresh).state
-  kept-log n log y p = kept_run (parse n log).end (parse n log).fields fresh (taken n log y).readable p
+  pub kept_log : (n : ℕ) (log : List ℕ) → AreBytes log → P fresh → P (run_bytes n log fresh).state
+  kept_log n log y p = kept_run (parse n log).end (parse n log).fields fresh (taken n log y).readable p
 
 -- ---- an accepted log of at most n fields, and its replay: their fields, and the bytes of these
 pub record Fields (n : ℕ) (log : List ℕ) (fields mallocs live : ℕ) : Type 0 where

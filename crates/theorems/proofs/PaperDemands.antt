@@ -29,7 +29,7 @@ use Rattle.theorems.proofs.Replayed.{next-accepted}
 use Rattle.theorems.proofs.Logs.{taken}
 use Rattle.theorems.proofs.Demands.{lemma2}
 use Rattle.theorems.proofs.PaperReading.{half, no_address, no_value, same_address}
-use Rattle.theorems.proofs.PaperRaces.{pointer-race-is-race, race-is-pointer-race, race-names-invalid}
+use Rattle.theorems.proofs.PaperRaces.{pointer_race_is_race, race_is_pointer_race, race_names_invalid}
 use Rattle.theorems.proofs.PaperCommands.{readable_takes}
 use Rattle.theorems.proofs.PaperRun.{computed, decides}
 
@@ -95,8 +95,8 @@ module _ (log : List ℕ) (b : AreBytes log) where
   pub accepted-passing : (n k l : ℕ) → (run_bytes log_fields log fresh).verdict ≡ Accepted n k l → passing (parse log_fields log).fields fresh ≡ (parse log_fields log).fields
   accepted-passing n k l e = accepted_all (parse log_fields log).end fields fresh n k l e
 
-  pub paper-lemma2 : Lemma2 computation.computation
-  paper-lemma2 = lemma2_of computation.computation (run_bytes log_fields log fresh).state computation.shows (lemma2 log b)
+  pub paper_lemma2 : Lemma2 computation.computation
+  paper_lemma2 = lemma2_of computation.computation (run_bytes log_fields log fresh).state computation.shows (lemma2 log b)
 
   -- the field after those that pass: its number and its thread, its commands, that one of them raises a pointer race, and a variable
   -- that is not valid
@@ -112,14 +112,14 @@ module _ (log : List ℕ) (b : AreBytes log) where
     pub named : NotValid (valid_in computation.computation) variable
 
   -- a log that is stopped by a race raises a pointer race there, by Definition 2
-  pub raced-raises : (n t v : ℕ) → (run_bytes log_fields log fresh).verdict ≡ Raced n t v → Raising n t v
-  raced-raises n t v e =
+  pub raced_raises : (n t v : ℕ) → (run_bytes log_fields log fresh).verdict ≡ Raced n t v → Raising n t v
+  raced_raises n t v e =
       let end = (parse log_fields log).end in
       let left = (run_bytes log_fields log fresh).state in
       let stop = race-stops end fields fresh n t v e in
       let f : Field = stop.0 in
       let why = next_raced (check (act_of f) left) f left n t v (sym (decides end fields fresh f stop.1 no_race stop.2) ∙ e) in
-      let R : Readable f = stop-readable (passing fields fresh) f stop.1 (subst (Every Readable) stop.2 (taken log_fields log b).readable) in
+      let R : Readable f = stop_readable (passing fields fresh) f stop.1 (subst (Every Readable) stop.2 (taken log_fields log b).readable) in
       let c = readable_takes f R in
       record {
         field = f;
@@ -129,17 +129,17 @@ module _ (log : List ℕ) (b : AreBytes log) where
         by = why.2;
         commands = c.0;
         takes = c.1;
-        race = race-is-pointer-race computation.computation left computation.shows (act_of f) c.0 c.1 v why.0;
-        named = race-names-invalid computation.computation left computation.shows (act_of f) c.0 c.1 v why.0;
+        race = race_is_pointer_race computation.computation left computation.shows (act_of f) c.0 c.1 v why.0;
+        named = race_names_invalid computation.computation left computation.shows (act_of f) c.0 c.1 v why.0;
       }
     where
-      stop-readable : (l : List Field) (f : Field) (rest : List Field) → Every Readable (l ++ (f ∷ rest)) → Readable f
-      stop-readable l f rest a = (every_cut Readable l (f ∷ rest) a).1.0
+      stop_readable : (l : List Field) (f : Field) (rest : List Field) → Every Readable (l ++ (f ∷ rest)) → Readable f
+      stop_readable l f rest a = (every_cut Readable l (f ∷ rest) a).1.0
 
   -- and where the field after those that pass raises a pointer race, the log is stopped by a race, of that field's thread
-  pub raises-raced : (f : Field) (rest : List Field) (cs : List Com) → (parse log_fields log).fields ≡ passing (parse log_fields log).fields fresh ++ (f ∷ rest) → Takes (act_of f) cs
+  pub raises_raced : (f : Field) (rest : List Field) (cs : List Com) → (parse log_fields log).fields ≡ passing (parse log_fields log).fields fresh ++ (f ∷ rest) → Takes (act_of f) cs
       → RaceIn (valid_in computation.computation) cs → (v : ℕ) × ((run_bytes log_fields log fresh).verdict ≡ Raced (run_bytes log_fields log fresh).state.fields f.thread v)
-  raises-raced f rest cs parts takes race =
+  raises_raced f rest cs parts takes race =
       let left = (run_bytes log_fields log fresh).state in
-      let v = pointer-race-is-race computation.computation left computation.shows (act_of f) cs takes race in
+      let v = pointer_race_is_race computation.computation left computation.shows (act_of f) cs takes race in
       (v.0, decides (parse log_fields log).end fields fresh f rest no_race parts ∙ rw v.1 refl)

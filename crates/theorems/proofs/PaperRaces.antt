@@ -30,10 +30,10 @@ SomeInvalid s [] = ⊥
 SomeInvalid s (p ∷ l) = (valid s p ≡ false) ⊎ SomeInvalid s l
 
 module _ (s : State) where
-  some-cut : (l m : List ℕ) → SomeInvalid s (l ++ m) → SomeInvalid s l ⊎ SomeInvalid s m
-  some-cut [] m i = inr i
-  some-cut (p ∷ l) m (inl t) = inl (inl t)
-  some-cut (p ∷ l) m (inr i) = later (some-cut l m i)
+  some_cut : (l m : List ℕ) → SomeInvalid s (l ++ m) → SomeInvalid s l ⊎ SomeInvalid s m
+  some_cut [] m i = inr i
+  some_cut (p ∷ l) m (inl t) = inl (inl t)
+  some_cut (p ∷ l) m (inr i) = later (some_cut l m i)
     where
       later : SomeInvalid s l ⊎ SomeInvalid s m → SomeInvalid s (p ∷ l) ⊎ SomeInvalid s m
       later (inl j) = inl (inr j)
@@ -50,24 +50,24 @@ module _ (s : State) where
 
 -- ---- tests in order, of which some say races
 module _ (s : State) where
-  race-in : (l : List ℕ) (done : Answer) (v : ℕ) → (done ≡ Race v → ⊥) → in_order (λ answer. answer) done (each (valid s) Race l) ≡ Race v → SomeInvalid s l
-  race-in [] done v n e = absurd (n e)
-  race-in (p ∷ l) done v n e = split (valid s p)
-      (λ t. inr (race-in l done v n (rw t at e)))
+  race_in : (l : List ℕ) (done : Answer) (v : ℕ) → (done ≡ Race v → ⊥) → in_order (λ answer. answer) done (each (valid s) Race l) ≡ Race v → SomeInvalid s l
+  race_in [] done v n e = absurd (n e)
+  race_in (p ∷ l) done v n e = split (valid s p)
+      (λ t. inr (race_in l done v n (rw t at e)))
       (λ t. inl t)
 
   -- and the race is said of a variable that is not valid
-  race-of : (l : List ℕ) (done : Answer) (v : ℕ) → (done ≡ Race v → ⊥) → in_order (λ answer. answer) done (each (valid s) Race l) ≡ Race v → valid s v ≡ false
-  race-of [] done v n e = absurd (n e)
-  race-of (p ∷ l) done v n e = split (valid s p)
-      (λ t. race-of l done v n (rw t at e))
+  race_of : (l : List ℕ) (done : Answer) (v : ℕ) → (done ≡ Race v → ⊥) → in_order (λ answer. answer) done (each (valid s) Race l) ≡ Race v → valid s v ≡ false
+  race_of [] done v n e = absurd (n e)
+  race_of (p ∷ l) done v n e = split (valid s p)
+      (λ t. race_of l done v n (rw t at e))
       (λ t. let said : Race p ≡ Race v = rw t at e in let same : p ≡ v = cc in rw same at t)
 
-  in-race : (l : List ℕ) (done : Answer) → SomeInvalid s l → (v : ℕ) × (in_order (λ answer. answer) done (each (valid s) Race l) ≡ Race v)
-  in-race [] done i = absurd i
-  in-race (p ∷ l) done (inl t) = (p, rw t refl)
-  in-race (p ∷ l) done (inr i) = split (valid s p)
-      (λ t. let r = in-race l done i in (r.0, rw t r.1))
+  in_race : (l : List ℕ) (done : Answer) → SomeInvalid s l → (v : ℕ) × (in_order (λ answer. answer) done (each (valid s) Race l) ≡ Race v)
+  in_race [] done i = absurd i
+  in_race (p ∷ l) done (inl t) = (p, rw t refl)
+  in_race (p ∷ l) done (inr i) = split (valid s p)
+      (λ t. let r = in_race l done i in (r.0, rw t r.1))
       (λ t. (p, rw t refl))
 
 -- tests that say no race
@@ -95,34 +95,34 @@ module _ (a : Act) (s : State) where
   abbrev pub others : List (Test Answer)
   others = set_tests a s ++ (vacancy_tests a s ++ guard_tests a s)
 
-  others-raceless : Every Raceless others
-  others-raceless =
+  others_raceless : Every Raceless others
+  others_raceless =
       every_join Raceless (set_tests a s) (vacancy_tests a s ++ guard_tests a s) (each_raceless (points s) UnsetPointer (through a.change))
       (every_join Raceless (vacancy_tests a s) (guard_tests a s) (each_raceless (vacant s) LiveCell (gives a.change)) (refusal_raceless AssertionFails, tt))
 
   -- what the checks come to: the tests for room, then the races, then the others
-  pub check-parts : check a s ≡ in_order (λ answer. answer) (in_order (λ answer. answer) (in_order (λ answer. answer) Go others) races) (room_tests a s)
+  pub check_parts : check a s ≡ in_order (λ answer. answer) (in_order (λ answer. answer) (in_order (λ answer. answer) Go others) races) (room_tests a s)
   unfolding check_by
-  check-parts = in_order_append (λ answer. answer) Go (room_tests a s) (races ++ others) ∙ ap (λ (done : Answer). in_order (λ answer. answer) done (room_tests a s)) (in_order_append (λ answer. answer) Go races others)
+  check_parts = in_order_append (λ answer. answer) Go (room_tests a s) (races ++ others) ∙ ap (λ (done : Answer). in_order (λ answer. answer) done (room_tests a s)) (in_order_append (λ answer. answer) Go races others)
 
   -- a race is said by the tests for races alone
-  by-races : (v : ℕ) → check a s ≡ Race v → (in_order (λ answer. answer) Go others ≡ Race v → ⊥) × (in_order (λ answer. answer) (in_order (λ answer. answer) Go others) races ≡ Race v)
-  by-races v e = (
-    (λ q. let z : Go ≡ Race v = after_raceless others Go v others-raceless q in let y : ◌≡◌ {A = ℕ} 0 1 = cc in omega arith),
-    after_raceless (room_tests a s) (in_order (λ answer. answer) (in_order (λ answer. answer) Go others) races) v (each_raceless (room_for s) TooManyMallocs (gives a.change)) (sym check-parts ∙ e),
+  by_races : (v : ℕ) → check a s ≡ Race v → (in_order (λ answer. answer) Go others ≡ Race v → ⊥) × (in_order (λ answer. answer) (in_order (λ answer. answer) Go others) races ≡ Race v)
+  by_races v e = (
+    (λ q. let z : Go ≡ Race v = after_raceless others Go v others_raceless q in let y : ◌≡◌ {A = ℕ} 0 1 = cc in omega arith),
+    after_raceless (room_tests a s) (in_order (λ answer. answer) (in_order (λ answer. answer) Go others) races) v (each_raceless (room_for s) TooManyMallocs (gives a.change)) (sym check_parts ∙ e),
   )
 
   race-touched : (v : ℕ) → check a s ≡ Race v → SomeInvalid s (touched a)
-  race-touched v e = let q = by-races v e in race-in s (touched a) (in_order (λ answer. answer) Go others) v q.0 q.1
+  race-touched v e = let q = by_races v e in race_in s (touched a) (in_order (λ answer. answer) Go others) v q.0 q.1
 
-  race-variable : (v : ℕ) → check a s ≡ Race v → valid s v ≡ false
-  race-variable v e = let q = by-races v e in race-of s (touched a) (in_order (λ answer. answer) Go others) v q.0 q.1
+  race_variable : (v : ℕ) → check a s ≡ Race v → valid s v ≡ false
+  race_variable v e = let q = by_races v e in race_of s (touched a) (in_order (λ answer. answer) Go others) v q.0 q.1
 
   touched-race : gives a.change ≡ [] → SomeInvalid s (touched a) → (v : ℕ) × (check a s ≡ Race v)
-  touched-race none i = let r = in-race s (touched a) (in_order (λ answer. answer) Go others) i in (r.0, check-parts ∙ no-rooms ∙ r.1)
+  touched-race none i = let r = in_race s (touched a) (in_order (λ answer. answer) Go others) i in (r.0, check_parts ∙ no_rooms ∙ r.1)
     where
-      no-rooms : {done : Answer} → in_order (λ answer. answer) done (room_tests a s) ≡ done
-      no-rooms = rw none refl
+      no_rooms : {done : Answer} → in_order (λ answer. answer) done (room_tests a s) ≡ done
+      no_rooms = rw none refl
 
 -- ---- Definition 2 names the variables that are looked at
 module _ (s : State) (legal : PExp → Bool) (marks : (p : ℕ) → legal (pointer_var p) ≡ valid s p) where
@@ -134,86 +134,86 @@ module _ (s : State) (legal : PExp → Bool) (marks : (p : ℕ) → legal (point
   two p q (inl t) = inl (marks p ∙ t)
   two p q (inr t) = inr (one q t)
 
-  to-guard : (g : Guard) (k : Cond) → Asserts g k → SomeInvalid s (compared g) → ContainsInvalid legal k
-  to-guard g k (says_same {p} {q}) i = two p q i
-  to-guard g k (says_apart {p} {q}) i = two p q i
-  to-guard g k (says_equal {x} {y}) i = i
-  to-guard g k (says_unequal {x} {y}) i = i
+  to_guard : (g : Guard) (k : Cond) → Asserts g k → SomeInvalid s (compared g) → ContainsInvalid legal k
+  to_guard g k (says_same {p} {q}) i = two p q i
+  to_guard g k (says_apart {p} {q}) i = two p q i
+  to_guard g k (says_equal {x} {y}) i = i
+  to_guard g k (says_unequal {x} {y}) i = i
 
-  to-change : (m : Change) (c : Com) → Says m c → SomeInvalid s (frees m ++ through m) → PointerRace legal c
-  to-change m c (says_malloc {p}) i = i
-  to-change m c (says_free {p}) i = one p i
-  to-change m c (says_copy {p} {q}) i = i
-  to-change m c (says_load {p} {q} n) i = one q i
-  to-change m c (says_store {p} {q} n) i = one p i
-  to-change m c (says_read {x} {p}) i = one p i
-  to-change m c (says_write {p} {x}) i = one p i
-  to-change m c (says_constant {x} {n}) i = i
-  to-change m c (says_sum {x} {y} {z}) i = i
+  to_change : (m : Change) (c : Com) → Says m c → SomeInvalid s (frees m ++ through m) → PointerRace legal c
+  to_change m c (says_malloc {p}) i = i
+  to_change m c (says_free {p}) i = one p i
+  to_change m c (says_copy {p} {q}) i = i
+  to_change m c (says_load {p} {q} n) i = one q i
+  to_change m c (says_store {p} {q} n) i = one p i
+  to_change m c (says_read {x} {p}) i = one p i
+  to_change m c (says_write {p} {x}) i = one p i
+  to_change m c (says_constant {x} {n}) i = i
+  to_change m c (says_sum {x} {y} {z}) i = i
 
   -- an assertion and what is looked at after it
-  to-first : (g : Guard) (k : Cond) → Asserts g k → (l : List ℕ) (cs : List Com) → (SomeInvalid s l → RaceIn legal cs) → SomeInvalid s (compared g ++ l) → RaceIn legal (Assert k ∷ cs)
-  to-first g k w l cs later i = first-or (some-cut s (compared g) l i)
+  to_first : (g : Guard) (k : Cond) → Asserts g k → (l : List ℕ) (cs : List Com) → (SomeInvalid s l → RaceIn legal cs) → SomeInvalid s (compared g ++ l) → RaceIn legal (Assert k ∷ cs)
+  to_first g k w l cs later i = first-or (some_cut s (compared g) l i)
     where
       first-or : SomeInvalid s (compared g) ⊎ SomeInvalid s l → RaceIn legal (Assert k ∷ cs)
-      first-or (inl j) = inl (to-guard g k w j)
+      first-or (inl j) = inl (to_guard g k w j)
       first-or (inr j) = inr (later j)
 
-  to-definition : (a : Act) (cs : List Com) → Takes a cs → SomeInvalid s (touched a) → RaceIn legal cs
-  to-definition a cs (change {m} {c} w) i = inl (to-change m c w i)
-  to-definition a cs (assertion {g} {k} w) i = to-first g k w [] [] (λ j. j) i
-  to-definition a cs (both {g} {k} {m} {c} w u n) i = to-first g k w (frees m ++ through m) (c ∷ []) (λ j. inl (to-change m c u j)) i
+  to_definition : (a : Act) (cs : List Com) → Takes a cs → SomeInvalid s (touched a) → RaceIn legal cs
+  to_definition a cs (change {m} {c} w) i = inl (to_change m c w i)
+  to_definition a cs (assertion {g} {k} w) i = to_first g k w [] [] (λ j. j) i
+  to_definition a cs (both {g} {k} {m} {c} w u n) i = to_first g k w (frees m ++ through m) (c ∷ []) (λ j. inl (to_change m c u j)) i
 
   back_one : (p : ℕ) → NotValid legal p → SomeInvalid s (p ∷ [])
   back_one p n = inl (sym (marks p) ∙ n)
 
-  back-two : (p q : ℕ) → NotValid legal p ⊎ NotValid legal q → SomeInvalid s (p ∷ q ∷ [])
-  back-two p q (inl n) = inl (sym (marks p) ∙ n)
-  back-two p q (inr n) = inr (back_one q n)
+  back_two : (p q : ℕ) → NotValid legal p ⊎ NotValid legal q → SomeInvalid s (p ∷ q ∷ [])
+  back_two p q (inl n) = inl (sym (marks p) ∙ n)
+  back_two p q (inr n) = inr (back_one q n)
 
-  from-guard : (g : Guard) (k : Cond) → Asserts g k → ContainsInvalid legal k → SomeInvalid s (compared g)
-  from-guard g k (says_same {p} {q}) r = back-two p q r
-  from-guard g k (says_apart {p} {q}) r = back-two p q r
-  from-guard g k (says_equal {x} {y}) r = absurd r
-  from-guard g k (says_unequal {x} {y}) r = absurd r
+  from_guard : (g : Guard) (k : Cond) → Asserts g k → ContainsInvalid legal k → SomeInvalid s (compared g)
+  from_guard g k (says_same {p} {q}) r = back_two p q r
+  from_guard g k (says_apart {p} {q}) r = back_two p q r
+  from_guard g k (says_equal {x} {y}) r = absurd r
+  from_guard g k (says_unequal {x} {y}) r = absurd r
 
-  from-change : (m : Change) (c : Com) → Says m c → PointerRace legal c → SomeInvalid s (frees m ++ through m) × (gives m ≡ [])
-  from-change m c (says_malloc {p}) r = absurd r
-  from-change m c (says_free {p}) r = (back_one p r, refl)
-  from-change m c (says_copy {p} {q}) r = absurd r
-  from-change m c (says_load {p} {q} n) r = (back_one q r, refl)
-  from-change m c (says_store {p} {q} n) r = (back_one p r, refl)
-  from-change m c (says_read {x} {p}) r = (back_one p r, refl)
-  from-change m c (says_write {p} {x}) r = (back_one p r, refl)
-  from-change m c (says_constant {x} {n}) r = absurd r
-  from-change m c (says_sum {x} {y} {z}) r = absurd r
+  from_change : (m : Change) (c : Com) → Says m c → PointerRace legal c → SomeInvalid s (frees m ++ through m) × (gives m ≡ [])
+  from_change m c (says_malloc {p}) r = absurd r
+  from_change m c (says_free {p}) r = (back_one p r, refl)
+  from_change m c (says_copy {p} {q}) r = absurd r
+  from_change m c (says_load {p} {q} n) r = (back_one q r, refl)
+  from_change m c (says_store {p} {q} n) r = (back_one p r, refl)
+  from_change m c (says_read {x} {p}) r = (back_one p r, refl)
+  from_change m c (says_write {p} {x}) r = (back_one p r, refl)
+  from_change m c (says_constant {x} {n}) r = absurd r
+  from_change m c (says_sum {x} {y} {z}) r = absurd r
 
-  from-definition : (a : Act) (cs : List Com) → Takes a cs → RaceIn legal cs → SomeInvalid s (touched a) × (gives a.change ≡ [])
-  from-definition a cs (change {m} {c} w) (inl r) = from-change m c w r
-  from-definition a cs (change {m} {c} w) (inr r) = absurd r
-  from-definition a cs (assertion {g} {k} w) (inl r) = (some_left s (compared g) [] (from-guard g k w r), refl)
-  from-definition a cs (assertion {g} {k} w) (inr r) = absurd r
-  from-definition a cs (both {g} {k} {m} {c} w u n) (inl r) = (some_left s (compared g) (frees m ++ through m) (from-guard g k w r), n)
-  from-definition a cs (both {g} {k} {m} {c} w u n) (inr (inl r)) = (some_right s (compared g) (frees m ++ through m) (from-change m c u r).0, n)
-  from-definition a cs (both {g} {k} {m} {c} w u n) (inr (inr r)) = absurd r
+  from_definition : (a : Act) (cs : List Com) → Takes a cs → RaceIn legal cs → SomeInvalid s (touched a) × (gives a.change ≡ [])
+  from_definition a cs (change {m} {c} w) (inl r) = from_change m c w r
+  from_definition a cs (change {m} {c} w) (inr r) = absurd r
+  from_definition a cs (assertion {g} {k} w) (inl r) = (some_left s (compared g) [] (from_guard g k w r), refl)
+  from_definition a cs (assertion {g} {k} w) (inr r) = absurd r
+  from_definition a cs (both {g} {k} {m} {c} w u n) (inl r) = (some_left s (compared g) (frees m ++ through m) (from_guard g k w r), n)
+  from_definition a cs (both {g} {k} {m} {c} w u n) (inr (inl r)) = (some_right s (compared g) (frees m ++ through m) (from_change m c u r).0, n)
+  from_definition a cs (both {g} {k} {m} {c} w u n) (inr (inr r)) = absurd r
 
 -- ---- where the state shows the computation, the rules' race is Definition 2's
 module _ (τ : Computation) (s : State) (H : Shows s τ) (a : Act) (cs : List Com) (takes : Takes a cs) where
-  pub some-invalid-race : SomeInvalid s (touched a) → RaceIn (valid_in τ) cs
-  some-invalid-race i = to-definition s (valid_in τ) (λ p. H.marks (pointer_var p)) a cs takes i
+  pub some_invalid_race : SomeInvalid s (touched a) → RaceIn (valid_in τ) cs
+  some_invalid_race i = to_definition s (valid_in τ) (λ p. H.marks (pointer_var p)) a cs takes i
 
-  pub race-is-pointer-race : (v : ℕ) → check a s ≡ Race v → RaceIn (valid_in τ) cs
-  race-is-pointer-race v e = some-invalid-race (race-touched a s v e)
+  pub race_is_pointer_race : (v : ℕ) → check a s ≡ Race v → RaceIn (valid_in τ) cs
+  race_is_pointer_race v e = some_invalid_race (race-touched a s v e)
 
-  pub race-names-invalid : (v : ℕ) → check a s ≡ Race v → NotValid (valid_in τ) v
-  race-names-invalid v e = H.marks (pointer_var v) ∙ race-variable a s v e
+  pub race_names_invalid : (v : ℕ) → check a s ≡ Race v → NotValid (valid_in τ) v
+  race_names_invalid v e = H.marks (pointer_var v) ∙ race_variable a s v e
 
-  pub pointer-race-is-race : RaceIn (valid_in τ) cs → (v : ℕ) × (check a s ≡ Race v)
-  pointer-race-is-race r = let q = from-definition s (valid_in τ) (λ p. H.marks (pointer_var p)) a cs takes r in touched-race a s q.1 q.0
+  pub pointer_race_is_race : RaceIn (valid_in τ) cs → (v : ℕ) × (check a s ≡ Race v)
+  pointer_race_is_race r = let q = from_definition s (valid_in τ) (λ p. H.marks (pointer_var p)) a cs takes r in touched-race a s q.1 q.0
 
-  pub passed-no-race : check a s ≡ Go → RaceIn (valid_in τ) cs → ⊥
-  passed-no-race here r =
-      let v = pointer-race-is-race r in
+  pub passed_no_race : check a s ≡ Go → RaceIn (valid_in τ) cs → ⊥
+  passed_no_race here r =
+      let v = pointer_race_is_race r in
       let differ : Race v.0 ≡ Go = sym v.1 ∙ here in
       let z : ◌≡◌ {A = ℕ} 0 1 = cc in
       omega arith

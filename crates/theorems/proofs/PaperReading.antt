@@ -115,18 +115,18 @@ module _ (s : State) (x : PExp) (w : ℕ) (z : Sized s) (within : Within (place_
   word_at : (e : PExp) → word (write (place_of x) w s) (place_of e) ≡ cond (same_p_exp x e) w (word s (place_of e))
   word_at e = rw (← (same_place x e)) (word_write s (place_of x) (place_of e) w z within)
 
-  still-there : (e : PExp) → is_there (write (place_of x) w s) e ≡ is_there s e
+  still_there : (e : PExp) → is_there (write (place_of x) w s) e ≡ is_there s e
   unfolding write
-  still-there (pointer_var p) = refl
-  still-there (next_of a i) = refl
+  still_there (pointer_var p) = refl
+  still_there (next_of a i) = refl
 
-  pub pval-write : (e : PExp) → pval_of (write (place_of x) w s) e ≡ cond (same_p_exp x e) (defined (adr_of w)) (pval_of s e)
-  pval-write e = rw (still-there e, word_at e) (split (same_p_exp x e)
+  pub pval_write : (e : PExp) → pval_of (write (place_of x) w s) e ≡ cond (same_p_exp x e) (defined (adr_of w)) (pval_of s e)
+  pval_write e = rw (still_there e, word_at e) (split (same_p_exp x e)
       (λ t. rw (t, same_there s x e t there) refl)
       (λ t. rw t refl))
 
-  pub mark-write : (e : PExp) → valid_of (write (place_of x) w s) e ≡ cond (same_p_exp x e) (is_valid w) (valid_of s e)
-  mark-write e = rw (word_at e) (split (same_p_exp x e) (λ t. rw t refl) (λ t. rw t refl))
+  pub mark_write : (e : PExp) → valid_of (write (place_of x) w s) e ≡ cond (same_p_exp x e) (is_valid w) (valid_of s e)
+  mark_write e = rw (word_at e) (split (same_p_exp x e) (λ t. rw t refl) (λ t. rw t refl))
 
 -- ---- data after a store
 pub dval_variable : (s : State) (x n : ℕ) (e : DExp) → Sized s → x < 80 → dval_of (store (VariableNumber x) n s) e ≡ cond (same_d_exp (data_var x) e) (defined n) (dval_of s e)
@@ -170,38 +170,38 @@ module _ (s : State) (c : ℕ) (T : Traced (word s) (status_of s)) (hc : c < 102
       absent (next_of a i) t = T.unwritten (2 * a + index i) (rw (half a i) (eqb-true (status_of s a) never_used (not-false (eqb (status_of s a) never_used) t)))
 
   -- a cell never used is not in use
-  pub not-in-use : (h : Heap) → ((e : PExp) → h.pval e ≡ pval_of s e) → ((e : DExp) → h.dval e ≡ dval_of s e) → status_of s c ≡ never_used → InUse h c → ⊥
+  pub not_in_use : (h : Heap) → ((e : PExp) → h.pval e ≡ pval_of s e) → ((e : DExp) → h.dval e ≡ dval_of s e) → status_of s c ≡ never_used → InUse h c → ⊥
   unfolding is_unset
-  not-in-use h pointers numbers new (inl q) = no_value (rw new at (sym (pointers (next_of c q.0)) ∙ q.1.is))
-  not-in-use h pointers numbers new (inr (inl q)) =
+  not_in_use h pointers numbers new (inl q) = no_value (rw new at (sym (pointers (next_of c q.0)) ∙ q.1.is))
+  not_in_use h pointers numbers new (inr (inl q)) =
       let held : eqb c (cell_of (word s (place_of q.0))) ≡ true = sym (points_to_lem q.0) ∙ ap (λ (v : Partial Adr). points_to v c) (sym (pointers q.0) ∙ q.1) ∙ eqb_self c in
       let same : c ≡ cell_of (word s (place_of q.0)) = eqb-true c (cell_of (word s (place_of q.0))) held in
       T.used (place_of q.0) (ne_eqb (cell_of (word s (place_of q.0))) unset (λ u. omega arith)) (rw (← same) new)
-  not-in-use h pointers numbers new (inr (inr q)) = no_value (rw new at (sym (numbers (data_of c)) ∙ q.is))
+  not_in_use h pointers numbers new (inr (inr q)) = no_value (rw new at (sym (numbers (data_of c)) ∙ q.is))
 
 -- ---- after a free of the live cell c
 module _ (s : State) (c : ℕ) (z : Sized s) (T : Traced (word s) (status_of s)) (l : Live s c) (hc : c < 1024) where
-  free-status : (k : ℕ) → status_of (free c s) k ≡ cond (eqb c k) freed (status_of s k)
+  free_status : (k : ℕ) → status_of (free c s) k ≡ cond (eqb c k) freed (status_of s k)
   unfolding free
-  free-status k = status_set s c freed z hc k
+  free_status k = status_set s c freed z hc k
 
-  free-there : (e : PExp) → is_there (free c s) e ≡ is_there s e
-  free-there (pointer_var p) = refl
-  free-there (next_of a i) = rw (free-status a) (split (eqb c a)
+  free_there : (e : PExp) → is_there (free c s) e ≡ is_there s e
+  free_there (pointer_var p) = refl
+  free_there (next_of a i) = rw (free_status a) (split (eqb c a)
       (λ t.
       let there : is_allocated s a ≡ true = allocated_live s a (rw (eqb-true c a t) at l) in
       rw (t, there) refl)
       (λ t. rw t refl))
 
-  adr-free : (x : Place) → adr_of (word (free c s) x) ≡ adr_of (word s x)
-  adr-free x = rw (word-free s c x z hc, unset_freed_at c x (word s x), cell_freed_at c x (word s x)) refl
+  adr_free : (x : Place) → adr_of (word (free c s) x) ≡ adr_of (word s x)
+  adr_free x = rw (word-free s c x z hc, unset_freed_at c x (word s x), cell_freed_at c x (word s x)) refl
 
-  pub pval-free : (e : PExp) → pval_of (free c s) e ≡ pval_of s e
-  pval-free e = rw (free-there e, adr-free (place_of e)) refl
+  pub pval_free : (e : PExp) → pval_of (free c s) e ≡ pval_of s e
+  pval_free e = rw (free_there e, adr_free (place_of e)) refl
 
-  pub dval-free : (e : DExp) → dval_of (free c s) e ≡ dval_of s e
-  dval-free (data_var x) = unfold free in refl
-  dval-free (data_of a) = unfold free in (ap (λ (b : Bool). cond b (defined (number_at s.numbers a)) undefined) (free-there (next_of a next₀)))
+  pub dval_free : (e : DExp) → dval_of (free c s) e ≡ dval_of s e
+  dval_free (data_var x) = unfold free in refl
+  dval_free (data_of a) = unfold free in (ap (λ (b : Bool). cond b (defined (number_at s.numbers a)) undefined) (free_there (next_of a next₀)))
 
   valid-after_free : (w : ℕ) → is_valid (after_free c w) ≡ is_valid w && not (eqb c (cell_of w) || false)
   unfolding after_free
@@ -209,71 +209,71 @@ module _ (s : State) (c : ℕ) (z : Sized s) (T : Traced (word s) (status_of s))
       (λ t. rw (t, valid-invalidated w) (sym (and-false (is_valid w))))
       (λ t. rw t (sym (and-true (is_valid w))))
 
-  pub mark-free : (e : PExp) → valid_of (free c s) e ≡ valid_of s e && not (points_to (pval_of s e) c || is_next_of c e)
-  mark-free (pointer_var p) = rw (points_to_lem s c T hc (pointer_var p), word-free s c (PointerWord p) z hc) (valid-after_free (pointer s p))
-  mark-free (next_of a i) =
+  pub mark_free : (e : PExp) → valid_of (free c s) e ≡ valid_of s e && not (points_to (pval_of s e) c || is_next_of c e)
+  mark_free (pointer_var p) = rw (points_to_lem s c T hc (pointer_var p), word-free s c (PointerWord p) z hc) (valid-after_free (pointer s p))
+  mark_free (next_of a i) =
       let x = SelectorWord (2 * a + index i) in
       rw (points_to_lem s c T hc (next_of a i), word-free s c x z hc, half a i) (split (eqb c a)
       (λ t. rw (t, eqb_turn a c, t, or-true (eqb c (cell_of (word s x))), valid-invalidated (word s x)) (sym (and-false (is_valid (word s x)))))
       (λ t. rw (t, eqb_turn a c, t) (valid-after_free (word s x))))
 
   pub freed-free : (a : ℕ) → freed_of (free c s) a ≡ freed_of s a || eqb c a
-  freed-free a = rw (free-status a) (split (eqb c a)
+  freed-free a = rw (free_status a) (split (eqb c a)
       (λ t. rw (t, or-true (freed_of s a)) refl)
       (λ t. rw (t, or-false (freed_of s a)) refl))
 
 -- ---- after a malloc of cell c into p
 module _ (s : State) (p c d : ℕ) (z : Sized s) (hp : p < 80) (hc : c < 1024) where
-  give-status : (k : ℕ) → status_of (give p c d s) k ≡ cond (eqb c k) live (status_of s k)
+  give_status : (k : ℕ) → status_of (give p c d s) k ≡ cond (eqb c k) live (status_of s k)
   unfolding give
-  give-status k = status_set s c live z hc k
+  give_status k = status_set s c live z hc k
 
-  given-pointer : (q : ℕ) → pval_of (give p c d s) (pointer_var q) ≡ cond (eqb p q) (defined (cell c)) (pval_of s (pointer_var q))
-  given-pointer q = rw (word-give s p c d (PointerWord q) z hp hc) (split (eqb p q)
+  given_pointer : (q : ℕ) → pval_of (give p c d s) (pointer_var q) ≡ cond (eqb p q) (defined (cell c)) (pval_of s (pointer_var q))
+  given_pointer q = rw (word-give s p c d (PointerWord q) z hp hc) (split (eqb p q)
       (λ t. rw t (ap (λ (b : Adr). defined b) (adr_cell c hc)))
       (λ t. rw t refl))
 
   -- (Malloc1): the cell was never used
-  new-selector : (a : ℕ) (i : Selector) → status_of s c ≡ never_used → pval_of (give p c d s) (next_of a i) ≡ cond (eqb c a) (defined seg) (pval_of s (next_of a i))
-  new-selector a i new = rw (give-status a, word-give s p c d (SelectorWord (2 * a + index i)) z hp hc, half a i, new) (split (eqb c a)
+  new_selector : (a : ℕ) (i : Selector) → status_of s c ≡ never_used → pval_of (give p c d s) (next_of a i) ≡ cond (eqb c a) (defined seg) (pval_of s (next_of a i))
+  new_selector a i new = rw (give_status a, word-give s p c d (SelectorWord (2 * a + index i)) z hp hc, half a i, new) (split (eqb c a)
       (λ t. rw t (ap (λ (b : Adr). defined b) adr_unset))
       (λ t. rw t refl))
 
-  pub pval-new : status_of s c ≡ never_used → (e : PExp)
+  pub pval_new : status_of s c ≡ never_used → (e : PExp)
       → pval_of (give p c d s) e ≡ cond (same_p_exp (next_of c next₁) e) (defined seg) (cond (same_p_exp (next_of c next₀) e) (defined seg) (cond (same_p_exp (pointer_var p) e) (defined (cell c)) (pval_of s e)))
-  pval-new new (pointer_var q) = given-pointer q
-  pval-new new (next_of a next₀) = new-selector a next₀ new ∙ rw (and-false (eqb c a), and-true (eqb c a)) refl
-  pval-new new (next_of a next₁) = new-selector a next₁ new ∙ rw (and-false (eqb c a), and-true (eqb c a)) refl
+  pval_new new (pointer_var q) = given_pointer q
+  pval_new new (next_of a next₀) = new_selector a next₀ new ∙ rw (and-false (eqb c a), and-true (eqb c a)) refl
+  pval_new new (next_of a next₁) = new_selector a next₁ new ∙ rw (and-false (eqb c a), and-true (eqb c a)) refl
 
-  pub dval-new : status_of s c ≡ never_used → (e : DExp) → dval_of (give p c d s) e ≡ cond (same_d_exp (data_of c) e) (defined d) (dval_of s e)
-  dval-new new (data_var x) = unfold give in refl
-  dval-new new (data_of a) = rw (give-status a, cell-give s p c d a z hc, starting_data_new s (record { 0 = c }) d new) (split (eqb c a)
+  pub dval_new : status_of s c ≡ never_used → (e : DExp) → dval_of (give p c d s) e ≡ cond (same_d_exp (data_of c) e) (defined d) (dval_of s e)
+  dval_new new (data_var x) = unfold give in refl
+  dval_new new (data_of a) = rw (give_status a, cell-give s p c d a z hc, starting_data_new s (record { 0 = c }) d new) (split (eqb c a)
       (λ t. rw t refl)
       (λ t. rw t refl))
 
   -- (Malloc2): the cell was freed
-  was-allocated : (a : ℕ) → status_of s c ≡ freed → eqb c a ≡ true → is_allocated s a ≡ true
-  was-allocated a old t = let same : status_of s a ≡ freed = rw (eqb-true c a t) at old in rw same refl
+  was_allocated : (a : ℕ) → status_of s c ≡ freed → eqb c a ≡ true → is_allocated s a ≡ true
+  was_allocated a old t = let same : status_of s a ≡ freed = rw (eqb-true c a t) at old in rw same refl
 
-  pub pval-used : status_of s c ≡ freed → (e : PExp) → pval_of (give p c d s) e ≡ cond (same_p_exp (pointer_var p) e) (defined (cell c)) (pval_of s e)
-  pval-used old (pointer_var q) = given-pointer q
-  pval-used old (next_of a i) = rw (give-status a, word-give s p c d (SelectorWord (2 * a + index i)) z hp hc, old) (split (eqb c a)
-      (λ t. rw (t, was-allocated a old t) refl)
+  pub pval_used : status_of s c ≡ freed → (e : PExp) → pval_of (give p c d s) e ≡ cond (same_p_exp (pointer_var p) e) (defined (cell c)) (pval_of s e)
+  pval_used old (pointer_var q) = given_pointer q
+  pval_used old (next_of a i) = rw (give_status a, word-give s p c d (SelectorWord (2 * a + index i)) z hp hc, old) (split (eqb c a)
+      (λ t. rw (t, was_allocated a old t) refl)
       (λ t. rw t refl))
 
-  pub dval-used : status_of s c ≡ freed → (e : DExp) → dval_of (give p c d s) e ≡ dval_of s e
+  pub dval_used : status_of s c ≡ freed → (e : DExp) → dval_of (give p c d s) e ≡ dval_of s e
   unfolding starting_data
-  dval-used old (data_var x) = unfold give in refl
-  dval-used old (data_of a) = rw (give-status a, cell-give s p c d a z hc, old) (split (eqb c a)
-      (λ t. rw (t, was-allocated a old t, eqb-true c a t) refl)
+  dval_used old (data_var x) = unfold give in refl
+  dval_used old (data_of a) = rw (give_status a, cell-give s p c d a z hc, old) (split (eqb c a)
+      (λ t. rw (t, was_allocated a old t, eqb-true c a t) refl)
       (λ t. rw t refl))
 
   -- both
-  pub mark-give : Traced (word s) (status_of s) → (e : PExp) → valid_of (give p c d s) e ≡ valid_of s e || same_p_exp (pointer_var p) e
-  mark-give T (pointer_var q) = rw (word-give s p c d (PointerWord q) z hp hc) (split (eqb p q)
+  pub mark_give : Traced (word s) (status_of s) → (e : PExp) → valid_of (give p c d s) e ≡ valid_of s e || same_p_exp (pointer_var p) e
+  mark_give T (pointer_var q) = rw (word-give s p c d (PointerWord q) z hp hc) (split (eqb p q)
       (λ t. rw (t, valid_below c (omega arith), or-true (is_valid (pointer s q))) refl)
       (λ t. rw (t, or-false (is_valid (pointer s q))) refl))
-  mark-give T (next_of a i) =
+  mark_give T (next_of a i) =
       let w : ℕ = word s (SelectorWord (2 * a + index i)) in
       rw (word-give s p c d (SelectorWord (2 * a + index i)) z hp hc, half a i, or-false (is_valid w)) (split (eqb (status_of s c) never_used && eqb c a)
       (λ t.
@@ -283,6 +283,6 @@ module _ (s : State) (p c d : ℕ) (z : Sized s) (hp : p < 80) (hc : c < 1024) w
       (λ t. rw t refl))
 
   pub freed-give : (a : ℕ) → freed_of (give p c d s) a ≡ freed_of s a && not (eqb c a)
-  freed-give a = rw (give-status a) (split (eqb c a)
+  freed-give a = rw (give_status a) (split (eqb c a)
       (λ t. rw (t, and-false (freed_of s a)) refl)
       (λ t. rw (t, and-true (freed_of s a)) refl))

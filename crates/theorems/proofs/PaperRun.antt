@@ -39,71 +39,71 @@ use Rattle.theorems.proofs.Kept.{Inv, Named, found, freed-live, inv_fresh, keep,
 use Rattle.theorems.proofs.Tables.{readable_named}
 use Rattle.theorems.proofs.Logs.{taken}
 use Rattle.theorems.proofs.PaperReading.{Traced, traced_free, traced_give, traced_write}
-use Rattle.theorems.proofs.PaperRaces.{passed-no-race}
-use Rattle.theorems.proofs.PaperSteps.{Returning, guard_passed, shows-assert, step-compute, step-copy, step-free, step-load, step-malloc, step-read, step-store, step-write}
+use Rattle.theorems.proofs.PaperRaces.{passed_no_race}
+use Rattle.theorems.proofs.PaperSteps.{Returning, guard_passed, shows_assert, step_compute, step_copy, step_free, step_load, step_malloc, step_read, step_store, step_write}
 use Rattle.theorems.proofs.PaperCommands.{readable_takes}
 
 -- ---- no selector of a never-used cell is written, and no word holds a never-used cell
 module _ (s : State) (I : Inv s) (T : Traced (word s) (status_of s)) where
-  traced-release : (p : ℕ) → Clear (valid s) (p ∷ []) → is_unset (pointer s p) ≡ false → Traced (word (free (cell_of (pointer s p)) s)) (status_of (free (cell_of (pointer s p)) s))
+  traced_release : (p : ℕ) → Clear (valid s) (p ∷ []) → is_unset (pointer s p) ≡ false → Traced (word (free (cell_of (pointer s p)) s)) (status_of (free (cell_of (pointer s p)) s))
   unfolding free
-  traced-release p v t =
+  traced_release p v t =
       let c : ℕ = cell_of (pointer s p) in
       let hc : c < 1024 = live_below s c I.sized (freed-live s p I v t) in
       traced_free c T hc (λ u. word-free s c u I.sized hc) (status_set s c freed I.sized hc)
 
-  traced-apply : (c : Change) → Named c → Clear (valid s) (frees c) → Clear (valid s) (through c) → Clear (points s) (through c) → Traced (word (apply c s)) (status_of (apply c s))
+  traced_apply : (c : Change) → Named c → Clear (valid s) (frees c) → Clear (valid s) (through c) → Clear (points s) (through c) → Traced (word (apply c s)) (status_of (apply c s))
   unfolding give write store
-  traced-apply Stay n f v u = T
-  traced-apply (Allocate p c d) n f v u = traced_give p c.0 T (cell_small c.0 n.1) (λ x. word-give s p c.0 d x I.sized n.0 n.1) (status_set s c.0 live I.sized n.1)
-  traced-apply (Release p) n f v u = split (is_unset (pointer s p)) (λ t. rw t T) (λ t. rw t (traced-release p f t))
-  traced-apply (Move x y) n f v u =
+  traced_apply Stay n f v u = T
+  traced_apply (Allocate p c d) n f v u = traced_give p c.0 T (cell_small c.0 n.1) (λ x. word-give s p c.0 d x I.sized n.0 n.1) (status_set s c.0 live I.sized n.1)
+  traced_apply (Release p) n f v u = split (is_unset (pointer s p)) (λ t. rw t T) (λ t. rw t (traced_release p f t))
+  traced_apply (Move x y) n f v u =
       let e = every_cut (λ i. valid s i ≡ true) (pointer_through x) (pointer_through y) v in
       let h = every_cut (λ i. points s i ≡ true) (pointer_through x) (pointer_through y) u in
       let at = found s x I n.0 e.0 h.0 in
       traced_write (place s x) (place s y) T at.owned (λ z. word_write s (place s x) z (word s (place s y)) I.sized at.within)
-  traced-apply (Put x w) n f v u = T
+  traced_apply (Put x w) n f v u = T
 
-  traced-step : (a : Act) → Named a.change → Passed a s → Traced (word (effect a s)) (status_of (effect a s))
+  traced_step : (a : Act) → Named a.change → Passed a s → Traced (word (effect a s)) (status_of (effect a s))
   unfolding count_field
-  traced-step a n g = let l = looked a s g in traced-apply a.change n l.frees l.goes g.pointing
+  traced_step a n g = let l = looked a s g in traced_apply a.change n l.frees l.goes g.pointing
 
 -- ---- one command
 shows_count : (τ : Computation) (s : State) → Shows s τ → Shows (count_field s) τ
 unfolding count_field
 shows_count τ s H = record {
-  pointers = λ e. H.pointers e ∙ same-pointers e;
-  numbers = λ e. H.numbers e ∙ same-data e;
-  marks = λ e. H.marks e ∙ same-marks e;
+  pointers = λ e. H.pointers e ∙ same_pointers_lem e;
+  numbers = λ e. H.numbers e ∙ same_data_lem e;
+  marks = λ e. H.marks e ∙ same_marks e;
   frees = H.frees;
 }
   where
-    same-pointers : (e : PExp) → pval_of s e ≡ pval_of (count_field s) e
-    same-pointers (pointer_var p) = refl
-    same-pointers (next_of a i) = refl
+    same_pointers_lem : (e : PExp) → pval_of s e ≡ pval_of (count_field s) e
+    same_pointers_lem (pointer_var p) = refl
+    same_pointers_lem (next_of a i) = refl
 
-    same-data : (e : DExp) → dval_of s e ≡ dval_of (count_field s) e
-    same-data (data_var y) = refl
-    same-data (data_of a) = refl
+    same_data_lem : (e : DExp) → dval_of s e ≡ dval_of (count_field s) e
+    same_data_lem (data_var y) = refl
+    same_data_lem (data_of a) = refl
 
-    same-marks : (e : PExp) → valid_of s e ≡ valid_of (count_field s) e
-    same-marks (pointer_var p) = refl
-    same-marks (next_of a i) = refl
+    same_marks : (e : PExp) → valid_of s e ≡ valid_of (count_field s) e
+    same_marks (pointer_var p) = refl
+    same_marks (next_of a i) = refl
 
 module _ (τ : Computation) (s : State) (thread : ℕ) (H : Shows s τ) (I : Inv s) (T : Traced (word s) (status_of s)) where
-  step-says : (m : Change) (c : Com) → Says m c → Named m
+  step_says : (m : Change) (c : Com) → Says m c → Named m
       → Clear (valid s) (frees m) → Clear (valid s) (through m) → Clear (points s) (through m) → Clear (vacant s) (gives m) → Returning τ thread (gives m) c (apply m s)
-  step-says m c (says_malloc {p} {d} {c = r}) n f v u w = step-malloc τ s thread H I T p d r n.0 n.1 (eqb-false (status_of s r.0) live (not-true (eqb (status_of s r.0) live) w.0))
-  step-says m c (says_free {p}) n f v u w = (step-free τ s thread H I T p f.0, tt)
-  step-says m c (says_copy {p} {q}) n f v u w = (step-copy τ s thread H I T p q n.0, tt)
-  step-says m c (says_load {p} {q} i) n f v u w = (step-load τ s thread H I T p q i n.0 (reached s q v u), tt)
-  step-says m c (says_store {p} {q} i) n f v u w = (step-store τ s thread H I T p i q (reached s p v u) (found s (SelectorOf p (index i)) I n.0 v u).within, tt)
-  step-says m c (says_read {x} {p}) n f v u w = (step-read τ s thread H I T x p n.0 (reached s p v u), tt)
-  step-says m c (says_write {p} {x}) n f v u w = (step-write τ s thread H I T p x (reached s p v u), tt)
-  step-says m c (says_constant {x} {n = k}) n f v u w = (step-compute τ s thread H I T x k (λ vs. k) [] [] n.0 tt refl, tt)
-  step-says m c (says_sum {x} {y} {z}) n f v u w =
+  step_says m c (says_malloc {p} {d} {c = r}) n f v u w = step_malloc τ s thread H I T p d r n.0 n.1 (eqb-false (status_of s r.0) live (not-true (eqb (status_of s r.0) live) w.0))
+  step_says m c (says_free {p}) n f v u w = (step_free τ s thread H I T p f.0, tt)
+  step_says m c (says_copy {p} {q}) n f v u w = (step_copy τ s thread H I T p q n.0, tt)
+  step_says m c (says_load {p} {q} i) n f v u w = (step_load τ s thread H I T p q i n.0 (reached s q v u), tt)
+  step_says m c (says_store {p} {q} i) n f v u w = (step_store τ s thread H I T p i q (reached s p v u) (found s (SelectorOf p (index i)) I n.0 v u).within, tt)
+  step_says m c (says_read {x} {p}) n f v u w = (step_read τ s thread H I T x p n.0 (reached s p v u), tt)
+  step_says m c (says_write {p} {x}) n f v u w = (step_write τ s thread H I T p x (reached s p v u), tt)
+  step_says m c (says_constant {x} {n = k}) n f v u w = (step_compute τ s thread H I T x k (λ vs. k) [] [] n.0 tt refl, tt)
+  step_says m c (says_sum {x} {y} {z}) n f v u w =
       let vs : List ℕ = number_at s.variables y ∷ number_at s.variables z ∷ [] in
-      (step-compute τ s thread H I T x (wrapping_sum vs) wrapping_sum (y ∷ z ∷ []) vs n.0 (H.numbers (data_var y), (H.numbers (data_var z), tt)) refl, tt)
+      (step_compute τ s thread H I T x (wrapping_sum vs) wrapping_sum (y ∷ z ∷ []) vs n.0 (H.numbers (data_var y), (H.numbers (data_var z), tt)) refl, tt)
 
 -- ---- the commands of one field
 -- what holds of a state and a computation before and after
@@ -123,11 +123,11 @@ record Onward (thread : ℕ) (named : List RecordedCell) (τ : Computation) (cs 
   shows : Shows s to
 
 module _ (s : State) (thread : ℕ) where
-  change-on : (τ : Computation) → Standing s τ → (a : Act) (c : Com) → Says a.change c → Named a.change → Passed a s → (PointerRace (valid_in τ) c → ⊥)
+  change_on : (τ : Computation) → Standing s τ → (a : Act) (c : Com) → Says a.change c → Named a.change → Passed a s → (PointerRace (valid_in τ) c → ⊥)
       → Onward thread (gives a.change) τ (c ∷ []) (apply a.change s)
-  change-on τ S a c w n g no_Race =
+  change_on τ S a c w n g no_Race =
       let l = looked a s g in
-      let st = step-says τ s thread S.shows S.inv S.traced a.change c w n l.frees l.goes g.pointing g.unlive in
+      let st = step_says τ s thread S.shows S.inv S.traced a.change c w n l.frees l.goes g.pointing g.unlive in
       record {
         to = then τ (record { thread = thread; command = c; up = st.0.up });
         steps = (st.0.up, st.0.rule, st.1, refl);
@@ -136,27 +136,27 @@ module _ (s : State) (thread : ℕ) where
         shows = st.0.shows;
       }
 
-  assert-on : (τ : Computation) → Standing s τ → (k : Cond) → passes true (heap_of τ) k ≡ true → (PointerRace (valid_in τ) (Assert k) → ⊥)
+  assert_on : (τ : Computation) → Standing s τ → (k : Cond) → passes true (heap_of τ) k ≡ true → (PointerRace (valid_in τ) (Assert k) → ⊥)
       → Standing s (then τ (record { thread = thread; command = Assert k; up = [] }))
-  assert-on τ S k e no_Race = record {
+  assert_on τ S k e no_Race = record {
     inv = S.inv;
     traced = S.traced;
-    shows = shows-assert τ s S.shows thread k [] (Asrt e);
+    shows = shows_assert τ s S.shows thread k [] (Asrt e);
     managed = (S.managed, Asrt e);
     race_free = (S.race_free, no_Race);
   }
 
-  takes-on : (τ : Computation) → Standing s τ → (a : Act) (cs : List Com) → Takes a cs → Named a.change → Passed a s → (RaceIn (valid_in τ) cs → ⊥)
+  takes_on : (τ : Computation) → Standing s τ → (a : Act) (cs : List Com) → Takes a cs → Named a.change → Passed a s → (RaceIn (valid_in τ) cs → ⊥)
       → Onward thread (gives a.change) τ cs (apply a.change s)
-  takes-on τ S a cs (change {m} {c} w) n g no_Race = change-on τ S a c w n g (λ r. no_Race (inl r))
-  takes-on τ S a cs (assertion {g = q} {k} w) n g no_Race =
+  takes_on τ S a cs (change {m} {c} w) n g no_Race = change_on τ S a c w n g (λ r. no_Race (inl r))
+  takes_on τ S a cs (assertion {g = q} {k} w) n g no_Race =
       let e : passes true (heap_of τ) k ≡ true = guard_passed τ s S.shows q k w g.holding in
-      let R = assert-on τ S k e (λ r. no_Race (inl r)) in
+      let R = assert_on τ S k e (λ r. no_Race (inl r)) in
       record { to = then τ (record { thread = thread; command = Assert k; up = [] }); steps = ([], Asrt e, tt, refl); managed = R.managed; race_free = R.race_free; shows = R.shows }
-  takes-on τ S a cs (both {g = q} {k} {m} {c} w u none) n g no_Race =
+  takes_on τ S a cs (both {g = q} {k} {m} {c} w u none) n g no_Race =
       let e : passes true (heap_of τ) k ≡ true = guard_passed τ s S.shows q k w g.holding in
       let ρ : Computation = then τ (record { thread = thread; command = Assert k; up = [] }) in
-      let o = change-on ρ (assert-on τ S k e (λ r. no_Race (inl r))) a c u n g (λ r. no_Race (inr (inl r))) in
+      let o = change_on ρ (assert_on τ S k e (λ r. no_Race (inl r))) a c u n g (λ r. no_Race (inr (inl r))) in
       record { to = o.to; steps = ([], Asrt e, rw none tt, o.steps); managed = o.managed; race_free = o.race_free; shows = o.shows }
 
 -- ---- a run: the fields that pass are a computation without a pointer race, and the state that is left shows it
@@ -172,10 +172,10 @@ module _ (f : Field) (s : State) (τ : Computation) (R : Readable f) (S : Standi
       let named = readable_named f R in
       let c = readable_takes f R in
       let g = passed act s here in
-      let o = takes-on s f.thread τ S act c.0 c.1 named.1 g (passed-no-race τ s S.shows act c.0 c.1 here) in
+      let o = takes_on s f.thread τ S act c.0 c.1 named.1 g (passed_no_race τ s S.shows act c.0 c.1 here) in
       let q = later o.to (record {
         inv = keep act s S.inv named.1 here;
-        traced = traced-step s S.inv S.traced act named.1 g;
+        traced = traced_step s S.inv S.traced act named.1 g;
         shows = shows_count o.to (apply act.change s) o.shows;
         managed = o.managed;
         race_free = o.race_free;

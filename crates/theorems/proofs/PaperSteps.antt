@@ -28,7 +28,7 @@ use Rattle.theorems.proofs.Basics.{eqb_self, eqb_turn, split}
 use Rattle.theorems.proofs.States.{Within}
 use Rattle.theorems.proofs.Passed.{Set}
 use Rattle.theorems.proofs.Kept.{Inv, live_below, live-cell}
-use Rattle.theorems.proofs.PaperReading.{Traced, adr_set, allocated_live, dval_cell, dval-free, dval-new, dval-used, dval_variable, freed-free, freed-give, mark-free, mark-give, mark-write, not-in-use, pval-free, pval-new, pval-used, pval-write}
+use Rattle.theorems.proofs.PaperReading.{Traced, adr_set, allocated_live, dval_cell, dval_free, dval_new, dval_used, dval_variable, freed-free, freed-give, mark_free, mark_give, mark_write, not_in_use, pval_free, pval_new, pval_used, pval_write}
 
 -- an update with its rule, and what the state shows after it
 pub record Stepped (τ : Computation) (thread : ℕ) (c : Com) (s : State) : Type 0 where
@@ -64,40 +64,40 @@ compared_passed wanted v w h = split (is_unset v)
     (λ f. compared_same wanted v w e f ∙ h))
 
 module _ (τ : Computation) (s : State) (H : Shows s τ) where
-  pointers-compared : (wanted : Bool) (p q : ℕ) → passes wanted (heap_of τ) (same_pointers p q) ≡ comparison wanted (pointer s p) (pointer s q)
-  pointers-compared wanted p q = rw (H.pointers (pointer_var p), H.pointers (pointer_var q)) refl
+  pointers_compared : (wanted : Bool) (p q : ℕ) → passes wanted (heap_of τ) (same_pointers p q) ≡ comparison wanted (pointer s p) (pointer s q)
+  pointers_compared wanted p q = rw (H.pointers (pointer_var p), H.pointers (pointer_var q)) refl
 
-  same-data-pass : (wanted : Bool) (x y : ℕ) → passes wanted (heap_of τ) (same_data x y) ≡ as_wanted wanted (eqb (number_at s.variables x) (number_at s.variables y))
-  same-data-pass wanted x y = rw (H.numbers (data_var x), H.numbers (data_var y)) (wanted_same wanted (eqb (number_at s.variables x) (number_at s.variables y)))
+  same_data_pass : (wanted : Bool) (x y : ℕ) → passes wanted (heap_of τ) (same_data x y) ≡ as_wanted wanted (eqb (number_at s.variables x) (number_at s.variables y))
+  same_data_pass wanted x y = rw (H.numbers (data_var x), H.numbers (data_var y)) (wanted_same wanted (eqb (number_at s.variables x) (number_at s.variables y)))
 
   -- an assertion that holds passes in the paper
   pub guard_passed : (g : Guard) (k : Cond) → Asserts g k → holds s g ≡ true → passes true (heap_of τ) k ≡ true
-  guard_passed g k (says_same {p} {q}) h = pointers-compared true p q ∙ compared_passed true (pointer s p) (pointer s q) h
-  guard_passed g k (says_apart {p} {q}) h = pointers-compared false p q ∙ compared_passed false (pointer s p) (pointer s q) h
-  guard_passed g k (says_equal {x} {y}) h = same-data-pass true x y ∙ h
-  guard_passed g k (says_unequal {x} {y}) h = same-data-pass false x y ∙ h
+  guard_passed g k (says_same {p} {q}) h = pointers_compared true p q ∙ compared_passed true (pointer s p) (pointer s q) h
+  guard_passed g k (says_apart {p} {q}) h = pointers_compared false p q ∙ compared_passed false (pointer s p) (pointer s q) h
+  guard_passed g k (says_equal {x} {y}) h = same_data_pass true x y ∙ h
+  guard_passed g k (says_unequal {x} {y}) h = same_data_pass false x y ∙ h
 
   -- and where it compares no unset pointer, it holds if and only if it passes
-  pub guard-passes : (g : Guard) (k : Cond) → Asserts g k → NoSeg s g → passes true (heap_of τ) k ≡ holds s g
-  guard-passes g k (says_same {p} {q}) n = pointers-compared true p q ∙ compared_same true (pointer s p) (pointer s q) n.0 n.1
-  guard-passes g k (says_apart {p} {q}) n = pointers-compared false p q ∙ compared_same false (pointer s p) (pointer s q) n.0 n.1
-  guard-passes g k (says_equal {x} {y}) n = same-data-pass true x y
-  guard-passes g k (says_unequal {x} {y}) n = same-data-pass false x y
+  pub guard_passes : (g : Guard) (k : Cond) → Asserts g k → NoSeg s g → passes true (heap_of τ) k ≡ holds s g
+  guard_passes g k (says_same {p} {q}) n = pointers_compared true p q ∙ compared_same true (pointer s p) (pointer s q) n.0 n.1
+  guard_passes g k (says_apart {p} {q}) n = pointers_compared false p q ∙ compared_same false (pointer s p) (pointer s q) n.0 n.1
+  guard_passes g k (says_equal {x} {y}) n = same_data_pass true x y
+  guard_passes g k (says_unequal {x} {y}) n = same_data_pass false x y
 
   -- an assertion changes nothing
-  pub shows-assert : (thread : ℕ) (k : Cond) (up : List Update) → Rule (heap_of τ) (freed_in τ) (Assert k) up → Shows s (then τ (record { thread = thread; command = Assert k; up = up }))
-  shows-assert thread k up (Asrt e) = record { pointers = H.pointers; numbers = H.numbers; marks = H.marks; frees = H.frees }
+  pub shows_assert : (thread : ℕ) (k : Cond) (up : List Update) → Rule (heap_of τ) (freed_in τ) (Assert k) up → Shows s (then τ (record { thread = thread; command = Assert k; up = up }))
+  shows_assert thread k up (Asrt e) = record { pointers = H.pointers; numbers = H.numbers; marks = H.marks; frees = H.frees }
 
 module _ (τ : Computation) (s : State) (thread : ℕ) (H : Shows s τ) (I : Inv s) (T : Traced (word s) (status_of s)) where
   -- ---- what the paper's heap has, where a pointer is valid and set
-  points-at : (p : ℕ) → Set s p → (heap_of τ).pval (pointer_var p) ≡ defined (cell (cell_of (pointer s p)))
-  points-at p t = H.pointers (pointer_var p) ∙ ap (λ (b : Adr). defined b) (adr_set (pointer s p) t.pointing)
+  points_at : (p : ℕ) → Set s p → (heap_of τ).pval (pointer_var p) ≡ defined (cell (cell_of (pointer s p)))
+  points_at p t = H.pointers (pointer_var p) ∙ ap (λ (b : Adr). defined b) (adr_set (pointer s p) t.pointing)
 
-  cell-allocated : (p : ℕ) → Set s p → is_allocated s (cell_of (pointer s p)) ≡ true
-  cell-allocated p t = allocated_live s (cell_of (pointer s p)) (live-cell s p I t)
+  cell_allocated : (p : ℕ) → Set s p → is_allocated s (cell_of (pointer s p)) ≡ true
+  cell_allocated p t = allocated_live s (cell_of (pointer s p)) (live-cell s p I t)
 
   next-value : (p : ℕ) (i : Selector) → Set s p → (heap_of τ).pval (next_of (cell_of (pointer s p)) i) ≡ defined (adr_of (word s (SelectorWord (2 * cell_of (pointer s p) + index i))))
-  next-value p i t = H.pointers (next_of (cell_of (pointer s p)) i) ∙ rw (cell-allocated p t) refl
+  next-value p i t = H.pointers (next_of (cell_of (pointer s p)) i) ∙ rw (cell_allocated p t) refl
 
   -- ---- a pointer expression takes a word
   moved : (c : Com) (x : PExp) (w : ℕ) → Within (place_of x) → is_there s x ≡ true
@@ -106,40 +106,40 @@ module _ (τ : Computation) (s : State) (thread : ℕ) (H : Shows s τ) (I : Inv
       → Shows (write (place_of x) w s) (then τ (record { thread = thread; command = c; up = pointer_to x (adr_of w) ∷ [] }))
   unfolding write
   moved c x w within there marks frees = record {
-    pointers = λ e. rw (H.pointers e) (sym (pval-write s x w I.sized within there e));
-    numbers = λ e. H.numbers e ∙ same-data e;
-    marks = λ e. marks e ∙ rw (H.marks e) (sym (mark-write s x w I.sized within there e));
+    pointers = λ e. rw (H.pointers e) (sym (pval_write s x w I.sized within there e));
+    numbers = λ e. H.numbers e ∙ same_data_lem e;
+    marks = λ e. marks e ∙ rw (H.marks e) (sym (mark_write s x w I.sized within there e));
     frees = λ a. frees (heap_of (then τ (record { thread = thread; command = c; up = pointer_to x (adr_of w) ∷ [] }))) a ∙ H.frees a;
   }
     where
-      same-data : (e : DExp) → dval_of s e ≡ dval_of (write (place_of x) w s) e
-      same-data (data_var y) = refl
-      same-data (data_of a) = refl
+      same_data_lem : (e : DExp) → dval_of s e ≡ dval_of (write (place_of x) w s) e
+      same_data_lem (data_var y) = refl
+      same_data_lem (data_of a) = refl
 
-  pub step-copy : (p q : ℕ) → p < 80 → Stepped τ thread (Copy p q) (apply (Move (PointerVariable p) (PointerVariable q)) s)
-  step-copy p q hp = record {
+  pub step_copy : (p q : ℕ) → p < 80 → Stepped τ thread (Copy p q) (apply (Move (PointerVariable p) (PointerVariable q)) s)
+  step_copy p q hp = record {
     up = pointer_to (pointer_var p) (adr_of (pointer s q)) ∷ [];
     rule = Asgn-copy (H.pointers (pointer_var q));
     shows = moved (Copy p q) (pointer_var p) (pointer s q) hp refl (λ e. received_cond (valid_in τ (pointer_var q)) (pointer_var p) e (valid_in τ) ∙ rw (H.marks (pointer_var q)) refl) (λ h a. refl);
   }
 
-  pub step-load : (p q : ℕ) (i : Selector) → p < 80 → Set s q → Stepped τ thread (Load p q i) (apply (Move (PointerVariable p) (SelectorOf q (index i))) s)
-  step-load p q i hp t =
+  pub step_load : (p q : ℕ) (i : Selector) → p < 80 → Set s q → Stepped τ thread (Load p q i) (apply (Move (PointerVariable p) (SelectorOf q (index i))) s)
+  step_load p q i hp t =
       let w : ℕ = word s (SelectorWord (2 * cell_of (pointer s q) + index i)) in
-      let passed_on : (valid_in τ (pointer_var q) && valid_next ((heap_of τ).pval (pointer_var q)) i (valid_in τ)) ≡ is_valid w = rw (points-at q t, H.marks (pointer_var q), t.valid) (H.marks (next_of (cell_of (pointer s q)) i)) in
+      let passed_on : (valid_in τ (pointer_var q) && valid_next ((heap_of τ).pval (pointer_var q)) i (valid_in τ)) ≡ is_valid w = rw (points_at q t, H.marks (pointer_var q), t.valid) (H.marks (next_of (cell_of (pointer s q)) i)) in
       record {
         up = pointer_to (pointer_var p) (adr_of w) ∷ [];
-        rule = Asgn-load (points-at q t) (next-value q i t);
+        rule = Asgn-load (points_at q t) (next-value q i t);
         shows = moved (Load p q i) (pointer_var p) w hp refl (λ e. rw passed_on (received_cond (is_valid w) (pointer_var p) e (valid_in τ))) (λ h a. refl);
       }
 
-  pub step-store : (p : ℕ) (i : Selector) (q : ℕ) → Set s p → Within (SelectorWord (2 * cell_of (pointer s p) + index i)) → Stepped τ thread (Store p i q) (apply (Move (SelectorOf p (index i)) (PointerVariable q)) s)
-  step-store p i q t within =
+  pub step_store : (p : ℕ) (i : Selector) (q : ℕ) → Set s p → Within (SelectorWord (2 * cell_of (pointer s p) + index i)) → Stepped τ thread (Store p i q) (apply (Move (SelectorOf p (index i)) (PointerVariable q)) s)
+  step_store p i q t within =
       let a : ℕ = cell_of (pointer s p) in
       record {
         up = pointer_to (next_of a i) (adr_of (pointer s q)) ∷ [];
-        rule = Asgn-store (points-at p t) (H.pointers (pointer_var q));
-        shows = moved (Store p i q) (next_of a i) (pointer s q) within (cell-allocated p t) (λ e. rw (points-at p t) (received_cond (valid_in τ (pointer_var q)) (next_of a i) e (valid_in τ) ∙ rw (H.marks (pointer_var q)) refl)) (λ h b. refl);
+        rule = Asgn-store (points_at p t) (H.pointers (pointer_var q));
+        shows = moved (Store p i q) (next_of a i) (pointer s q) within (cell_allocated p t) (λ e. rw (points_at p t) (received_cond (valid_in τ (pointer_var q)) (next_of a i) e (valid_in τ) ∙ rw (H.marks (pointer_var q)) refl)) (λ h b. refl);
       }
 
   -- ---- a data expression takes a number
@@ -149,51 +149,51 @@ module _ (τ : Computation) (s : State) (thread : ℕ) (H : Shows s τ) (I : Inv
       → Shows (store y n s) (then τ (record { thread = thread; command = c; up = data_to x n ∷ [] }))
   unfolding store
   stored c x y n numbers marks frees = record {
-    pointers = λ e. H.pointers e ∙ same-pointers e;
+    pointers = λ e. H.pointers e ∙ same_pointers_lem e;
     numbers = λ e. rw (H.numbers e) (sym (numbers e));
-    marks = λ e. marks e ∙ H.marks e ∙ same-marks e;
+    marks = λ e. marks e ∙ H.marks e ∙ same_marks e;
     frees = λ a. frees (heap_of (then τ (record { thread = thread; command = c; up = data_to x n ∷ [] }))) a ∙ H.frees a;
   }
     where
-      same-pointers : (e : PExp) → pval_of s e ≡ pval_of (store y n s) e
-      same-pointers (pointer_var p) = refl
-      same-pointers (next_of a i) = refl
+      same_pointers_lem : (e : PExp) → pval_of s e ≡ pval_of (store y n s) e
+      same_pointers_lem (pointer_var p) = refl
+      same_pointers_lem (next_of a i) = refl
 
-      same-marks : (e : PExp) → valid_of s e ≡ valid_of (store y n s) e
-      same-marks (pointer_var p) = refl
-      same-marks (next_of a i) = refl
+      same_marks : (e : PExp) → valid_of s e ≡ valid_of (store y n s) e
+      same_marks (pointer_var p) = refl
+      same_marks (next_of a i) = refl
 
-  pub step-read : (x p : ℕ) → x < 80 → Set s p → Stepped τ thread (ReadData x p) (apply (Put (DataVariable x) (Held (DataOf p))) s)
-  step-read x p hx t =
+  pub step_read : (x p : ℕ) → x < 80 → Set s p → Stepped τ thread (ReadData x p) (apply (Put (DataVariable x) (Held (DataOf p))) s)
+  step_read x p hx t =
       let n : ℕ = number_at s.numbers (cell_of (pointer s p)) in
-      let held : (heap_of τ).dval (data_of (cell_of (pointer s p))) ≡ defined n = H.numbers (data_of (cell_of (pointer s p))) ∙ rw (cell-allocated p t) refl in
+      let held : (heap_of τ).dval (data_of (cell_of (pointer s p))) ≡ defined n = H.numbers (data_of (cell_of (pointer s p))) ∙ rw (cell_allocated p t) refl in
       record {
         up = data_to (data_var x) n ∷ [];
-        rule = Asgn-read (points-at p t) held;
+        rule = Asgn-read (points_at p t) held;
         shows = stored (ReadData x p) (data_var x) (VariableNumber x) n (λ e. dval_variable s x n e I.sized hx) (λ e. refl) (λ h a. refl);
       }
 
-  pub step-write : (p x : ℕ) → Set s p → Stepped τ thread (WriteData p x) (apply (Put (DataOf p) (Held (DataVariable x))) s)
-  step-write p x t =
+  pub step_write : (p x : ℕ) → Set s p → Stepped τ thread (WriteData p x) (apply (Put (DataOf p) (Held (DataVariable x))) s)
+  step_write p x t =
       let a : ℕ = cell_of (pointer s p) in
       let n : ℕ = number_at s.variables x in
       let l : Live s a = live-cell s p I t in
       record {
         up = data_to (data_of a) n ∷ [];
-        rule = Asgn-write (points-at p t) (H.numbers (data_var x));
+        rule = Asgn-write (points_at p t) (H.numbers (data_var x));
         shows = stored (WriteData p x) (data_of a) (CellNumber a) n (λ e. dval_cell s a n e I.sized l (live_below s a I.sized l)) (λ e. refl) (λ h b. refl);
       }
 
-  pub step-compute : (x n : ℕ) (op : List ℕ → ℕ) (xs vs : List ℕ) → x < 80 → Values (heap_of τ) xs vs → op vs ≡ n → Stepped τ thread (Compute x op xs) (store (VariableNumber x) n s)
-  step-compute x n op xs vs hx given e = record {
+  pub step_compute : (x n : ℕ) (op : List ℕ → ℕ) (xs vs : List ℕ) → x < 80 → Values (heap_of τ) xs vs → op vs ≡ n → Stepped τ thread (Compute x op xs) (store (VariableNumber x) n s)
+  step_compute x n op xs vs hx given e = record {
     up = data_to (data_var x) (op vs) ∷ [];
     rule = Asgn-compute vs given;
     shows = rw e (stored (Compute x op xs) (data_var x) (VariableNumber x) n (λ q. dval_variable s x n q I.sized hx) (λ q. refl) (λ h a. refl));
   }
 
   -- ---- a free: (Free) has no constraint and no update
-  pub step-free : (p : ℕ) → is_valid (pointer s p) ≡ true → Stepped τ thread (Free p) (apply (Release p) s)
-  step-free p ok = split (is_unset (pointer s p))
+  pub step_free : (p : ℕ) → is_valid (pointer s p) ≡ true → Stepped τ thread (Free p) (apply (Release p) s)
+  step_free p ok = split (is_unset (pointer s p))
       (λ e. rw e (unset-free e))
       (λ e. rw e (set_free e))
     where
@@ -222,10 +222,10 @@ module _ (τ : Computation) (s : State) (thread : ℕ) (H : Shows s τ) (I : Inv
             up = [];
             rule = Free-rule;
             shows = record {
-              pointers = λ q. H.pointers q ∙ sym (pval-free s c z T l hc q);
-              numbers = λ q. H.numbers q ∙ sym (dval-free s c z T l hc q);
-              marks = λ q. rw (points-at p t, H.marks q, H.pointers q) (sym (mark-free s c z T l hc q));
-              frees = λ a. rw (points-at p t, H.frees a) (sym (freed-free s c z T l hc a));
+              pointers = λ q. H.pointers q ∙ sym (pval_free s c z T l hc q);
+              numbers = λ q. H.numbers q ∙ sym (dval_free s c z T l hc q);
+              marks = λ q. rw (points_at p t, H.marks q, H.pointers q) (sym (mark_free s c z T l hc q));
+              frees = λ a. rw (points_at p t, H.frees a) (sym (freed-free s c z T l hc a));
             };
           }
 
@@ -234,38 +234,38 @@ module _ (τ : Computation) (s : State) (thread : ℕ) (H : Shows s τ) (I : Inv
     abbrev c : ℕ
     c = r.0
 
-    step-new : status_of s c ≡ never_used → Returning τ thread (r ∷ []) (Malloc p) (give p c d s)
-    step-new new =
+    step_new : status_of s c ≡ never_used → Returning τ thread (r ∷ []) (Malloc p) (give p c d s)
+    step_new new =
         let z = I.sized in
         let ups : List Update = pointer_to (pointer_var p) (cell c) ∷ data_to (data_of c) d ∷ pointer_to (next_of c next₀) seg ∷ pointer_to (next_of c next₁) seg ∷ [] in
         let st : Stepped τ thread (Malloc p) (give p c d s) = record {
           up = ups;
-          rule = Malloc1 (not-in-use s c T hc (heap_of τ) H.pointers H.numbers new);
+          rule = Malloc1 (not_in_use s c T hc (heap_of τ) H.pointers H.numbers new);
           shows = record {
-            pointers = λ e. rw (H.pointers e) (sym (pval-new s p c d z hp hc new e));
-            numbers = λ e. rw (H.numbers e) (sym (dval-new s p c d z hp hc new e));
-            marks = λ e. rw (H.marks e) (sym (mark-give s p c d z hp hc T e));
+            pointers = λ e. rw (H.pointers e) (sym (pval_new s p c d z hp hc new e));
+            numbers = λ e. rw (H.numbers e) (sym (dval_new s p c d z hp hc new e));
+            marks = λ e. rw (H.marks e) (sym (mark_give s p c d z hp hc T e));
             frees = λ a. rw (eqb_self p, H.frees a) (sym (freed-give s p c d z hp hc a));
           };
         } in
         (st, (refl, tt))
 
-    step-used : status_of s c ≡ freed → Returning τ thread (r ∷ []) (Malloc p) (give p c d s)
-    step-used old =
+    step_used : status_of s c ≡ freed → Returning τ thread (r ∷ []) (Malloc p) (give p c d s)
+    step_used old =
         let z = I.sized in
         let st : Stepped τ thread (Malloc p) (give p c d s) = record {
           up = pointer_to (pointer_var p) (cell c) ∷ [];
           rule = Malloc2 (H.frees c ∙ rw old refl);
           shows = record {
-            pointers = λ e. rw (H.pointers e) (sym (pval-used s p c d z hp hc old e));
-            numbers = λ e. H.numbers e ∙ sym (dval-used s p c d z hp hc old e);
-            marks = λ e. rw (H.marks e) (sym (mark-give s p c d z hp hc T e));
+            pointers = λ e. rw (H.pointers e) (sym (pval_used s p c d z hp hc old e));
+            numbers = λ e. H.numbers e ∙ sym (dval_used s p c d z hp hc old e);
+            marks = λ e. rw (H.marks e) (sym (mark_give s p c d z hp hc T e));
             frees = λ a. rw (eqb_self p, H.frees a) (sym (freed-give s p c d z hp hc a));
           };
         } in
         (st, (refl, tt))
 
-    pub step-malloc : (Live s c → ⊥) → Returning τ thread (r ∷ []) (Malloc p) (apply (Allocate p r d) s)
-    step-malloc nl = split (eqb (status_of s c) never_used)
-        (λ e. step-new (eqb-true (status_of s c) never_used e))
-        (λ e. step-used (omega (arith, eqb-false (status_of s c) never_used e, I.sound.kinds c, nl)))
+    pub step_malloc : (Live s c → ⊥) → Returning τ thread (r ∷ []) (Malloc p) (apply (Allocate p r d) s)
+    step_malloc nl = split (eqb (status_of s c) never_used)
+        (λ e. step_new (eqb-true (status_of s c) never_used e))
+        (λ e. step_used (omega (arith, eqb-false (status_of s c) never_used e, I.sound.kinds c, nl)))

@@ -40,43 +40,43 @@ module _ {P : ℕ → Type 0} (C : Closed P) where
   unfolding after_free
   after c w p = either P (eqb c (cell_of w)) (C.invalidates w p) p
 
-  words-write : (x : Place) (w : ℕ) (s : State) → P w → Words P s → Words P (write x w s)
+  words_write : (x : Place) (w : ℕ) (s : State) → P w → Words P s → Words P (write x w s)
   unfolding write
-  words-write (PointerWord i) w s p h (PointerWord j) = in_set P s.pointers i j w unset p (h (PointerWord j))
-  words-write (PointerWord i) w s p h (SelectorWord j) = h (SelectorWord j)
-  words-write (SelectorWord i) w s p h (PointerWord j) = h (PointerWord j)
-  words-write (SelectorWord i) w s p h (SelectorWord j) = in_set P s.selectors i j w unset p (h (SelectorWord j))
+  words_write (PointerWord i) w s p h (PointerWord j) = in_set P s.pointers i j w unset p (h (PointerWord j))
+  words_write (PointerWord i) w s p h (SelectorWord j) = h (SelectorWord j)
+  words_write (SelectorWord i) w s p h (PointerWord j) = h (PointerWord j)
+  words_write (SelectorWord i) w s p h (SelectorWord j) = in_set P s.selectors i j w unset p (h (SelectorWord j))
 
-  words-change_word : (f : ℕ → ℕ) (i : ℕ) (l : List ℕ) → ((w : ℕ) → P w → P (f w)) → ((j : ℕ) → P (word_at l j)) → (j : ℕ) → P (word_at (change_word f i l) j)
-  words-change_word f i l k q j = in_set P l i j (f (word_at l i)) unset (k (word_at l i) (q i)) (q j)
+  words_change_word : (f : ℕ → ℕ) (i : ℕ) (l : List ℕ) → ((w : ℕ) → P w → P (f w)) → ((j : ℕ) → P (word_at l j)) → (j : ℕ) → P (word_at (change_word f i l) j)
+  words_change_word f i l k q j = in_set P l i j (f (word_at l i)) unset (k (word_at l i) (q i)) (q j)
 
-  words-change_own : (f : ℕ → ℕ) (c : ℕ) (l : List ℕ) → ((w : ℕ) → P w → P (f w)) → ((j : ℕ) → P (word_at l j)) → (j : ℕ) → P (word_at (change_own f c l) j)
-  words-change_own f c l k q = words-change_word f (2 * c + 1) (change_word f (2 * c) l) k (words-change_word f (2 * c) l k q)
+  words_change_own : (f : ℕ → ℕ) (c : ℕ) (l : List ℕ) → ((w : ℕ) → P w → P (f w)) → ((j : ℕ) → P (word_at l j)) → (j : ℕ) → P (word_at (change_own f c l) j)
+  words_change_own f c l k q = words_change_word f (2 * c + 1) (change_word f (2 * c) l) k (words_change_word f (2 * c) l k q)
 
-  words-free : (c : ℕ) (s : State) → Words P s → Words P (free c s)
+  words_free : (c : ℕ) (s : State) → Words P s → Words P (free c s)
   unfolding free
-  words-free c s h (PointerWord j) = in_map P (after_free c) s.pointers j unset (after c) (h (PointerWord j))
-  words-free c s h (SelectorWord j) = words-change_own invalidated c (map (after_free c) s.selectors) C.invalidates (λ i. in_map P (after_free c) s.selectors i unset (after c) (h (SelectorWord i))) j
+  words_free c s h (PointerWord j) = in_map P (after_free c) s.pointers j unset (after c) (h (PointerWord j))
+  words_free c s h (SelectorWord j) = words_change_own invalidated c (map (after_free c) s.selectors) C.invalidates (λ i. in_map P (after_free c) s.selectors i unset (after c) (h (SelectorWord i))) j
 
-  words-give : (p c d : ℕ) (s : State) → c < 1024 → Words P s → Words P (give p c d s)
+  words_give : (p c d : ℕ) (s : State) → c < 1024 → Words P s → Words P (give p c d s)
   unfolding give
-  words-give p c d s hc h (PointerWord j) = in_set P s.pointers p j c unset (C.cell c hc) (h (PointerWord j))
-  words-give p c d s hc h (SelectorWord j) = either (λ (l : List ℕ). P (word_at l j)) (eqb (status_of s c) never_used) (words-change_own (λ w. unset) c s.selectors (λ w q. C.unset) (λ i. h (SelectorWord i)) j) (h (SelectorWord j))
+  words_give p c d s hc h (PointerWord j) = in_set P s.pointers p j c unset (C.cell c hc) (h (PointerWord j))
+  words_give p c d s hc h (SelectorWord j) = either (λ (l : List ℕ). P (word_at l j)) (eqb (status_of s c) never_used) (words_change_own (λ w. unset) c s.selectors (λ w q. C.unset) (λ i. h (SelectorWord i)) j) (h (SelectorWord j))
 
-  words-apply : (c : Change) (s : State) → Named c → Words P s → Words P (apply c s)
+  words_apply : (c : Change) (s : State) → Named c → Words P s → Words P (apply c s)
   unfolding store
-  words-apply Stay s n h = h
-  words-apply (Allocate p c d) s n h = words-give p c.0 d s n.1 h
-  words-apply (Release p) s n h = either (Words P) (is_unset (pointer s p)) h (words-free (cell_of (pointer s p)) s h)
-  words-apply (Move x y) s n h = words-write (place s x) (word s (place s y)) s (h (place s y)) h
-  words-apply (Put x v) s n h = h
+  words_apply Stay s n h = h
+  words_apply (Allocate p c d) s n h = words_give p c.0 d s n.1 h
+  words_apply (Release p) s n h = either (Words P) (is_unset (pointer s p)) h (words_free (cell_of (pointer s p)) s h)
+  words_apply (Move x y) s n h = words_write (place s x) (word s (place s y)) s (h (place s y)) h
+  words_apply (Put x v) s n h = h
 
-  pub words-effect : (a : Act) (s : State) → Named a.change → Words P s → Words P (effect a s)
+  pub words_effect : (a : Act) (s : State) → Named a.change → Words P s → Words P (effect a s)
   unfolding count_field
-  words-effect a s n h = words-apply a.change s n h
+  words_effect a s n h = words_apply a.change s n h
 
-  pub words-fresh : Words P fresh
-  words-fresh x = subst P (sym (word-fresh x)) C.unset
+  pub words_fresh : Words P fresh
+  words_fresh x = subst P (sym (word-fresh x)) C.unset
 
 -- a pointer word as document 01 says it: 0 to 1,024, or 2,048 more
 unfoldable pub Ranged : ℕ → Type 0

@@ -34,7 +34,7 @@ use Rattle.theorems.proofs.States.{status_set}
 use Rattle.theorems.proofs.Passed.{looked, passed}
 use Rattle.theorems.proofs.Kept.{Inv, Named, NamedAct, freed-live, inv_fresh, live_below, status_fresh, word-fresh}
 use Rattle.theorems.proofs.Tied.{Pair, Tied, beside, flat, partner, partner_set, partner_unset, word_live}
-use Rattle.theorems.proofs.Step.{Apt, check-step, named_step, step}
+use Rattle.theorems.proofs.Step.{Apt, check_step, named_step, step}
 use Rattle.theorems.proofs.Tables.{act_copy}
 
 -- of every command of a log
@@ -75,7 +75,7 @@ module _ (choose : State → State → ReplayCell) (I : State → State → Type
       let same : b ≡ copy_act R c a = act_copy R c f in
       let here : check a R ≡ Go = next-accepted (check a R) f R (run fs (effect a R)) n k l e in
       let z : Apt S c a.change = apt R S a P.1 w.0 here in
-      let there : check b S ≡ Go = rw same (check-step m P.0 c a z here) in
+      let there : check b S ≡ Go = rw same (check_step m P.0 c a z here) in
       let Q : Both (effect a R) (effect b S) (onward f g m) = rw same (step m P.0 c a z w.0.1 here, keeps R S m a P.0 P.1 w.0 here) in
       let r = along fs (effect a R) (effect b S) (onward f g m) n k l Q w.1 (rw here at e) in
       ((P, here, there, r.0), (rw same (named_step m P.0 c a z w.0), r.1))
@@ -163,7 +163,7 @@ next_keeps R S m a P B n e = λ k h.
     let b : Act = copy_act R c a in
     let z = next_apt R S a B n e in
     let q = beyond_cell R a.change k h in
-    unused_step b.change S k P.right (named_step m P c a z n).1 (looked b S (passed b S (check-step m P c a z e))).frees q.0 (B k q.1)
+    unused_step b.change S k P.right (named_step m P c a z n).1 (looked b S (passed b S (check_step m P c a z e))).frees q.0 (B k q.1)
 
 replay-next : (fs : List Field) (R S : State) → replay_by in_order_of_mallocs R S fs ≡ replay R fs
 replay-next [] R S = refl

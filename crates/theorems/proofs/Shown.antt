@@ -122,20 +122,20 @@ abbrev from : ℕ → List ℕ → List ℕ
 from n log = drop (offset_of n log) log
 
 module _ (f : Field) (r : List ℕ) (known : is_tag f.tag ≡ true) where
-  size-front : size_in (field_bytes f ++ r) ≡ length (field_bytes f)
-  size-front = rw (tag_first f r known) (sym (length-field_bytes f))
+  size_front : size_in (field_bytes f ++ r) ≡ length (field_bytes f)
+  size_front = rw (tag_first f r known) (sym (length-field_bytes f))
 
-  part-front : take (size_in (field_bytes f ++ r)) (field_bytes f ++ r) ≡ field_bytes f
-  part-front = rw size-front (take-append_seam (field_bytes f) r)
+  part_front : take (size_in (field_bytes f ++ r)) (field_bytes f ++ r) ≡ field_bytes f
+  part_front = rw size_front (take-append_seam (field_bytes f) r)
 
-  rest-front : drop (size_in (field_bytes f ++ r)) (field_bytes f ++ r) ≡ r
-  rest-front = rw size-front (drop-append_seam (field_bytes f) r)
+  rest_front : drop (size_in (field_bytes f ++ r)) (field_bytes f ++ r) ≡ r
+  rest_front = rw size_front (drop-append_seam (field_bytes f) r)
 
-  offset-later : (n : ℕ) → offset_of (suc n) (field_bytes f ++ r) ≡ length (field_bytes f) + offset_of n r
-  offset-later n = rw (rest-front, size-front) refl
+  offset_later : (n : ℕ) → offset_of (suc n) (field_bytes f ++ r) ≡ length (field_bytes f) + offset_of n r
+  offset_later n = rw (rest_front, size_front) refl
 
-  from-later : (n : ℕ) → from (suc n) (field_bytes f ++ r) ≡ from n r
-  from-later n = rw (offset-later n) (drop-append-add (field_bytes f) r (offset_of n r))
+  from_later : (n : ℕ) → from (suc n) (field_bytes f ++ r) ≡ from n r
+  from_later n = rw (offset_later n) (drop-append-add (field_bytes f) r (offset_of n r))
 
 -- field n of two logs: at the same place, of the same size, and alike
 record Beside (log copy : List ℕ) (n : ℕ) : Type 0 where
@@ -152,7 +152,7 @@ beside (f ∷ fs) s zero R C h =
     record {
       offset = refl;
       size = rw (tag_first f r R.0.tag, tag_first g r' C.0.tag) refl;
-      alike = rw (part-front f r R.0.tag, part-front g r' C.0.tag) (alike_copy s (next_cell s) f R.0);
+      alike = rw (part_front f r R.0.tag, part_front g r' C.0.tag) (alike_copy s (next_cell s) f R.0);
     }
 beside (f ∷ fs) s (suc n) R C h =
     let g : Field = copy_field s (next_cell s) f in
@@ -160,9 +160,9 @@ beside (f ∷ fs) s (suc n) R C h =
     let r' = bytes_of (replay (effect (act_of f) s) fs) in
     let later = beside fs (effect (act_of f) s) n R.1 C.1 (le_of_suc-le-suc h) in
     record {
-      offset = rw (offset-later f r R.0.tag n, offset-later g r' C.0.tag n) (omega (arith, later.offset, length-field_bytes f, length-field_bytes g));
-      size = rw (from-later f r R.0.tag n, from-later g r' C.0.tag n) later.size;
-      alike = rw (from-later f r R.0.tag n, from-later g r' C.0.tag n) later.alike;
+      offset = rw (offset_later f r R.0.tag n, offset_later g r' C.0.tag n) (omega (arith, later.offset, length-field_bytes f, length-field_bytes g));
+      size = rw (from_later f r R.0.tag n, from_later g r' C.0.tag n) later.size;
+      alike = rw (from_later f r R.0.tag n, from_later g r' C.0.tag n) later.alike;
     }
 
 -- ---- what is shown of two logs whose fields stand beside each other

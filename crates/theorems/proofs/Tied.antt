@@ -75,81 +75,81 @@ module _ {R S : State} {m : ℕ → ℕ} (P : Pair R S m) where
   pub word_live : (x : Place) → is_valid (word R x) ≡ true → eqb (word R x) unset ≡ false → Live R (word R x)
   word_live x h e = rw (valid-cell (word R x) h) at ((P.left.sound.good x).live h (unset_eqb (word R x) h ∙ e))
 
-  match-below : (x : Place) → is_valid (word R x) ≡ true → eqb (word R x) unset ≡ false → m (word R x) < 1024
-  match-below x h e = live_below S (m (word R x)) P.right.sized (P.tied.live (word R x) (word_live x h e))
+  match_below : (x : Place) → is_valid (word R x) ≡ true → eqb (word R x) unset ≡ false → m (word R x) < 1024
+  match_below x h e = live_below S (m (word R x)) P.right.sized (P.tied.live (word R x) (word_live x h e))
 
-  pub eqb-m : (c d : ℕ) → Live R c → Live R d → eqb (m c) (m d) ≡ eqb c d
-  eqb-m c d h k = split (eqb c d)
+  pub eqb_m : (c d : ℕ) → Live R c → Live R d → eqb (m c) (m d) ≡ eqb c d
+  eqb_m c d h k = split (eqb c d)
       (λ e. rw e (eq-eqb (m c) (m d) (ap m (eqb-true c d e))))
       (λ e. rw e (ne_eqb (m c) (m d) (λ q. eqb-false c d e (P.tied.one c d h k q))))
 
-  pub partner-valid : (x : Place) → is_valid (word R x) ≡ true → is_valid (partner m (word R x)) ≡ true
-  partner-valid x h = split (eqb (word R x) unset)
+  pub partner_valid : (x : Place) → is_valid (word R x) ≡ true → is_valid (partner m (word R x)) ≡ true
+  partner_valid x h = split (eqb (word R x) unset)
       (λ e. rw (partner_unset m (word R x) e) (valid_below unset (omega arith)))
-      (λ e. rw (partner_set m (word R x) e) (valid_below (m (word R x)) (omega (arith, match-below x h e))))
+      (λ e. rw (partner_set m (word R x) e) (valid_below (m (word R x)) (omega (arith, match_below x h e))))
 
-  unset-partner : (x : Place) → is_valid (word R x) ≡ true → eqb (partner m (word R x)) unset ≡ eqb (word R x) unset
-  unset-partner x h = split (eqb (word R x) unset)
+  unset_partner : (x : Place) → is_valid (word R x) ≡ true → eqb (partner m (word R x)) unset ≡ eqb (word R x) unset
+  unset_partner x h = split (eqb (word R x) unset)
       (λ e. rw (partner_unset m (word R x) e, e) refl)
-      (λ e. rw (partner_set m (word R x) e, e) (ne_eqb (m (word R x)) unset (λ q. omega (arith, match-below x h e))))
+      (λ e. rw (partner_set m (word R x) e, e) (ne_eqb (m (word R x)) unset (λ q. omega (arith, match_below x h e))))
 
-  half-unset : (x y : Place) → is_valid (word R y) ≡ true → eqb (word R x) unset ≡ true → eqb (word R y) unset ≡ false
+  half_unset : (x y : Place) → is_valid (word R y) ≡ true → eqb (word R x) unset ≡ true → eqb (word R y) unset ≡ false
       → (eqb (partner m (word R x)) (partner m (word R y)) ≡ false) × (eqb (word R x) (word R y) ≡ false)
-  half-unset x y k e f = (
-    rw (partner_unset m (word R x) e, partner_set m (word R y) f) (ne_eqb unset (m (word R y)) (λ q. omega (arith, match-below y k f))),
+  half_unset x y k e f = (
+    rw (partner_unset m (word R x) e, partner_set m (word R y) f) (ne_eqb unset (m (word R y)) (λ q. omega (arith, match_below y k f))),
     ne_eqb (word R x) (word R y) (λ q. eqb-false (word R y) unset f (sym q ∙ eqb-true (word R x) unset e)),
   )
 
-  partner-eqb : (x y : Place) → is_valid (word R x) ≡ true → is_valid (word R y) ≡ true → eqb (partner m (word R x)) (partner m (word R y)) ≡ eqb (word R x) (word R y)
-  partner-eqb x y h k = split (eqb (word R x) unset)
+  partner_eqb : (x y : Place) → is_valid (word R x) ≡ true → is_valid (word R y) ≡ true → eqb (partner m (word R x)) (partner m (word R y)) ≡ eqb (word R x) (word R y)
+  partner_eqb x y h k = split (eqb (word R x) unset)
       (λ e. split (eqb (word R y) unset)
       (λ f. rw (partner_unset m (word R x) e, partner_unset m (word R y) f, eqb-true (word R x) unset e, eqb-true (word R y) unset f) refl)
-      (λ f. let z = half-unset x y k e f in z.0 ∙ sym z.1))
+      (λ f. let z = half_unset x y k e f in z.0 ∙ sym z.1))
       (λ e. split (eqb (word R y) unset)
-      (λ f. let z = half-unset y x h f e in eqb_turn (partner m (word R x)) (partner m (word R y)) ∙ z.0 ∙ sym (eqb_turn (word R x) (word R y) ∙ z.1))
-      (λ f. rw (partner_set m (word R x) e, partner_set m (word R y) f) (eqb-m (word R x) (word R y) (word_live x h e) (word_live y k f))))
+      (λ f. let z = half_unset y x h f e in eqb_turn (partner m (word R x)) (partner m (word R y)) ∙ z.0 ∙ sym (eqb_turn (word R x) (word R y) ∙ z.1))
+      (λ f. rw (partner_set m (word R x) e, partner_set m (word R y) f) (eqb_m (word R x) (word R y) (word_live x h e) (word_live y k f))))
 
   -- ---- pointer variables
   pointer-valid : (p : ℕ) → is_valid (pointer R p) ≡ true → is_valid (pointer S p) ≡ true
-  pointer-valid p h = rw (P.tied.words (PointerWord p) tt h) (partner-valid (PointerWord p) h)
+  pointer-valid p h = rw (P.tied.words (PointerWord p) tt h) (partner_valid (PointerWord p) h)
 
-  pointer-match : (p : ℕ) → is_valid (pointer R p) ≡ true → cell_of (pointer S p) ≡ partner m (cell_of (pointer R p))
-  pointer-match p h = valid-cell (pointer S p) (pointer-valid p h) ∙ P.tied.words (PointerWord p) tt h ∙ ap (partner m) (sym (valid-cell (pointer R p) h))
+  pointer_match : (p : ℕ) → is_valid (pointer R p) ≡ true → cell_of (pointer S p) ≡ partner m (cell_of (pointer R p))
+  pointer_match p h = valid-cell (pointer S p) (pointer-valid p h) ∙ P.tied.words (PointerWord p) tt h ∙ ap (partner m) (sym (valid-cell (pointer R p) h))
 
   pub pointer-unset : (p : ℕ) → is_valid (pointer R p) ≡ true → is_unset (pointer S p) ≡ is_unset (pointer R p)
-  pointer-unset p h = unset_eqb (pointer S p) (pointer-valid p h) ∙ rw (P.tied.words (PointerWord p) tt h) (unset-partner (PointerWord p) h) ∙ sym (unset_eqb (pointer R p) h)
+  pointer-unset p h = unset_eqb (pointer S p) (pointer-valid p h) ∙ rw (P.tied.words (PointerWord p) tt h) (unset_partner (PointerWord p) h) ∙ sym (unset_eqb (pointer R p) h)
 
   pub pointer-cell : (p : ℕ) → Set R p → cell_of (pointer S p) ≡ m (cell_of (pointer R p))
   unfolding is_unset
-  pointer-cell p t = pointer-match p t.valid ∙ partner_set m (cell_of (pointer R p)) t.pointing
+  pointer-cell p t = pointer_match p t.valid ∙ partner_set m (cell_of (pointer R p)) t.pointing
 
-  cells-sim : (p q : ℕ) → is_valid (pointer R p) ≡ true → is_valid (pointer R q) ≡ true
+  cells_sim : (p q : ℕ) → is_valid (pointer R p) ≡ true → is_valid (pointer R q) ≡ true
       → eqb (cell_of (pointer S p)) (cell_of (pointer S q)) ≡ eqb (cell_of (pointer R p)) (cell_of (pointer R q))
-  cells-sim p q h k = rw (pointer-match p h, pointer-match q k, valid-cell (pointer R p) h, valid-cell (pointer R q) k) (partner-eqb (PointerWord p) (PointerWord q) h k)
+  cells_sim p q h k = rw (pointer_match p h, pointer_match q k, valid-cell (pointer R p) h, valid-cell (pointer R q) k) (partner_eqb (PointerWord p) (PointerWord q) h k)
 
   -- ---- the checks pass alike
-  pub clear-valid : (l : List ℕ) → Clear (valid R) l → Clear (valid S) l
-  clear-valid l c = every_map (λ p. valid R p ≡ true) (λ p. valid S p ≡ true) l pointer-valid c
+  pub clear_valid : (l : List ℕ) → Clear (valid R) l → Clear (valid S) l
+  clear_valid l c = every_map (λ p. valid R p ≡ true) (λ p. valid S p ≡ true) l pointer-valid c
 
-  pub clear-points : (l : List ℕ) → Clear (valid R) l → Clear (points R) l → Clear (points S) l
-  clear-points [] e f = tt
-  clear-points (p ∷ l) e f = (ap not (pointer-unset p e.0) ∙ f.0, clear-points l e.1 f.1)
+  pub clear_points : (l : List ℕ) → Clear (valid R) l → Clear (points R) l → Clear (points S) l
+  clear_points [] e f = tt
+  clear_points (p ∷ l) e f = (ap not (pointer-unset p e.0) ∙ f.0, clear_points l e.1 f.1)
 
-  same-sim : (t : Bool) (p q : ℕ) → is_valid (pointer R p) ≡ true → is_valid (pointer R q) ≡ true → same_as_wanted t (pointer S p) (pointer S q) ≡ same_as_wanted t (pointer R p) (pointer R q)
+  same_sim : (t : Bool) (p q : ℕ) → is_valid (pointer R p) ≡ true → is_valid (pointer R q) ≡ true → same_as_wanted t (pointer S p) (pointer S q) ≡ same_as_wanted t (pointer R p) (pointer R q)
   unfolding same_as_wanted
-  same-sim t p q h k = rw (cells-sim p q h k) refl
+  same_sim t p q h k = rw (cells_sim p q h k) refl
 
-  pub holds-sim : (g : Guard) → Clear (valid R) (compared g) → holds S g ≡ holds R g
-  holds-sim Always c = refl
-  holds-sim (Same t p q) c = same-sim t p q c.0 c.1.0
-  holds-sim (Equal t x y) c = rw P.tied.variables refl
+  pub holds_sim : (g : Guard) → Clear (valid R) (compared g) → holds S g ≡ holds R g
+  holds_sim Always c = refl
+  holds_sim (Same t p q) c = same_sim t p q c.0 c.1.0
+  holds_sim (Equal t x y) c = rw P.tied.variables refl
 
   -- ---- places
-  pub eq-beside : (x y : Place) → Owned (status_of R) x → Owned (status_of R) y → eq_place (beside m x) (beside m y) ≡ eq_place x y
-  eq-beside (PointerWord i) (PointerWord j) h k = refl
-  eq-beside (PointerWord i) (SelectorWord j) h k = refl
-  eq-beside (SelectorWord i) (PointerWord j) h k = refl
-  eq-beside (SelectorWord i) (SelectorWord j) h k = split (eqb i j)
+  pub eq_beside : (x y : Place) → Owned (status_of R) x → Owned (status_of R) y → eq_place (beside m x) (beside m y) ≡ eq_place x y
+  eq_beside (PointerWord i) (PointerWord j) h k = refl
+  eq_beside (PointerWord i) (SelectorWord j) h k = refl
+  eq_beside (SelectorWord i) (PointerWord j) h k = refl
+  eq_beside (SelectorWord i) (SelectorWord j) h k = split (eqb i j)
       (λ e. rw (eqb-true i j e, eqb_self j) (eqb_self (2 * m (j / 2) + j % 2)))
       (λ e. rw e (ne_eqb (2 * m (i / 2) + i % 2) (2 * m (j / 2) + j % 2)
       (λ q. eqb-false i j e (
@@ -157,9 +157,9 @@ module _ {R S : State} {m : ℕ → ℕ} (P : Pair R S m) where
       let b : i / 2 ≡ j / 2 = P.tied.one (i / 2) (j / 2) h k a in
       omega arith))))
 
-  pub place-beside : (x : PExp) → PointerNamed x → Clear (valid R) (pointer_through x) → Clear (points R) (pointer_through x) → place S x ≡ beside m (place R x)
-  place-beside (PointerVariable p) n e f = refl
-  place-beside (SelectorOf p b) n e f =
+  pub place_beside : (x : PExp) → PointerNamed x → Clear (valid R) (pointer_through x) → Clear (points R) (pointer_through x) → place S x ≡ beside m (place R x)
+  place_beside (PointerVariable p) n e f = refl
+  place_beside (SelectorOf p b) n e f =
       let c : ℕ = cell_of (pointer R p) in
       let h : (2 * c + b) / 2 ≡ c = omega (arith, n.1) in
       let k : (2 * c + b) % 2 ≡ b = omega (arith, n.1) in

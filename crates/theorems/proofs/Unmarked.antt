@@ -179,20 +179,20 @@ module _ (s : State) (c : ℕ) (z : Sized s) (l : Live s c) where
   unfolding free
   after_free_lem k = status_set s c freed z (live_below s c z l) k
 
-  honest-after_free : (w : ℕ) → Honest (status_of s) w → Honest (status_of (free c s)) (after_free c w)
+  honest_after_free : (w : ℕ) → Honest (status_of s) w → Honest (status_of (free c s)) (after_free c w)
   unfolding after_free
-  honest-after_free w t = split (eqb c (cell_of w))
+  honest_after_free w t = split (eqb c (cell_of w))
       (λ e. rw (e, cell-invalidated w, valid-invalidated w, after_free_lem (cell_of w), e) refl)
       (λ e. rw (e, after_free_lem (cell_of w), e) t)
 
-  honest-freed_at : (u : Place) → Owned (status_of (free c s)) u → AllHonest s → Honest (status_of (free c s)) (freed_at c u (word s u))
+  honest_freed_at : (u : Place) → Owned (status_of (free c s)) u → AllHonest s → Honest (status_of (free c s)) (freed_at c u (word s u))
   unfolding AllHonest
-  honest-freed_at (PointerWord i) o h = honest-after_free (word s (PointerWord i)) (h (PointerWord i) tt)
-  honest-freed_at (SelectorWord j) o h = let t = still s c (j / 2) z l o in rw t.0 (honest-after_free (word s (SelectorWord j)) (h (SelectorWord j) t.1))
+  honest_freed_at (PointerWord i) o h = honest_after_free (word s (PointerWord i)) (h (PointerWord i) tt)
+  honest_freed_at (SelectorWord j) o h = let t = still s c (j / 2) z l o in rw t.0 (honest_after_free (word s (SelectorWord j)) (h (SelectorWord j) t.1))
 
-  honest-free : AllHonest s → AllHonest (free c s)
+  honest_free : AllHonest s → AllHonest (free c s)
   unfolding AllHonest
-  honest-free h = λ u o. rw (word-free s c u z (live_below s c z l)) (honest-freed_at u o h)
+  honest_free h = λ u o. rw (word-free s c u z (live_below s c z l)) (honest_freed_at u o h)
 
 honest_give : (s : State) (p c d : ℕ) → Sized s → p < 80 → c < 1024 → status_of s c ≡ never_used → AllHonest s → AllHonest (give p c d s)
 unfolding AllHonest give
@@ -272,7 +272,7 @@ clean_apply (Release p) s l C n f v u = split (is_unset (pointer s p))
     let c : ℕ = cell_of (pointer s p) in
     let h : Live s c = freed-live s p C.inv f t in
     rw t (
-      honest-free s c C.inv.sized h C.honest,
+      honest_free s c C.inv.sized h C.honest,
       unused_set (status_of s) (status_of (free c s)) c freed l (after_free_lem s c C.inv.sized h) (absent_live (status_of s) c l h C.unused) C.unused,
       C.distinct,
     ))

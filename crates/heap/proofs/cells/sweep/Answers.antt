@@ -1,7 +1,7 @@
 -- `heap::cells::sweep` meets its contract: a map, in place.
 use Rattle.std.proofs.Common.{arith, rules}
 use Rattle.heap.proofs.Freed.{invalidated_above}
-use Rattle.heap.proofs.Front.{front-end, front-none, front-step}
+use Rattle.heap.proofs.Front.{front_end, front-none, front_step}
 use Rattle.heap.proofs.cells.sweep.Goals as goal
 
 pub overflow_sub-mark : goal.overflow_sub-mark
@@ -14,7 +14,7 @@ pub after_free-requires : goal.after_free-requires
 after_free-requires c = omega (arith, c.invalidate.ensures, (invalidated_above c.args.cell (omega arith)).0)
 
 pub loop-i-preserved : goal.loop-i-preserved
-loop-i-preserved c = (search rules, front-step _ _ _ _ _ c.loop-i.invariant.1 c.after_free.ensures)
+loop-i-preserved c = (search rules, front_step _ _ _ _ _ c.loop-i.invariant.1 c.after_free.ensures)
 
 pub returns : goal.returns
-returns c = front-end _ _ _ _ c.loop-i.invariant.1 (search rules)
+returns c = front_end _ _ _ _ c.loop-i.invariant.1 (search rules)
