@@ -1,5 +1,5 @@
 -- `judge::acts::act_of` meets its contract: an arm for each line of the table of commands.
-use Rattle.fields.proofs.Tags.{no_line}
+use Rattle.fields.proofs.Tags.{NoneTo, no_line}
 use Rattle.rules.specs.Commands.{command_of, commands, no_command}
 use Rattle.std.proofs.Common.{refl, rules}
 use Rattle.judge.proofs.acts.act_of.Goals as goal
@@ -66,4 +66,6 @@ returns-in-15 c = rw c.in-15.is c.asserts-in-15.ensures
 
 pub returns-in_default : goal.returns-in_default
 unfolding command_of
-returns-in_default c = let h = c.in_default in ?
+returns-in_default c =
+    let none : NoneTo c.args.field.tag 15 = search rules in
+    rw (no_line commands no_command refl c.args.field.tag none) c.does-in_default.ensures
