@@ -8,8 +8,8 @@ pub returns-clause-by_index : goal.returns-clause-by_index
 returns-clause-by_index c =
     let a = c.args in
     λ variables numbers.
-        free-join a.pointers.now _ variables a.tally _ a.selectors.now _ _ numbers a.status.now _
-        c.sweep-2.ensures c.invalidate_own.ensures c.change_status-live.ensures.status_after c.sweep.ensures
+    free-join a.pointers.now _ variables a.tally _ a.selectors.now _ _ numbers a.status.now _
+    c.sweep-2.ensures c.invalidate_own.ensures c.change_status-live.ensures.status_after c.sweep.ensures
 
 pub returns-clause-counts : goal.returns-clause-counts
 returns-clause-counts c =

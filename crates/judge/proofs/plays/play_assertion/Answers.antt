@@ -10,14 +10,14 @@ pub returns-then-goes-clause-by_index : goal.returns-then-goes-clause-by_index
 returns-then-goes-clause-by_index c =
     let a = c.args in
     rw c.count_field.ensures (
-      λ selectors numbers status.
-          let s = state_of (board_of a.pointers.now a.variables.now) a.tally selectors numbers status in
-          play-on a.guard Stay s _ _ refl refl c.check_guard-answer.ensures _ c.goes.ensures _ c.if-goes.true refl
+    λ selectors numbers status.
+    let s = state_of (board_of a.pointers.now a.variables.now) a.tally selectors numbers status in
+    play-on a.guard Stay s _ _ refl refl c.check_guard-answer.ensures _ c.goes.ensures _ c.if-goes.true refl
     )
 
 pub returns-clause-by_index : goal.returns-clause-by_index
 returns-clause-by_index c =
     let a = c.args in
     λ selectors numbers status.
-        let s = state_of (board_of a.pointers.now a.variables.now) a.tally selectors numbers status in
-        play-stop a.guard Stay s _ _ refl refl c.check_guard-answer.ensures _ c.goes.ensures c.if-goes.false
+    let s = state_of (board_of a.pointers.now a.variables.now) a.tally selectors numbers status in
+    play-stop a.guard Stay s _ _ refl refl c.check_guard-answer.ensures _ c.goes.ensures c.if-goes.false

@@ -17,14 +17,14 @@ pub returns-then-goes-clause-by_index : goal.returns-then-goes-clause-by_index
 returns-then-goes-clause-by_index c =
     let a = c.args in
     rw c.count_field.ensures (
-      λ numbers.
-          let s = state_of (board_of a.pointers.now a.variables.now) a.tally a.selectors.now numbers a.status.now in
-          play-on a.guard (Release a.p) s _ _ refl c.race_at.ensures c.check_guard-answer.ensures _ c.goes.ensures _ c.if-goes.true (c.release-count.ensures.by_index a.variables.now numbers)
+    λ numbers.
+    let s = state_of (board_of a.pointers.now a.variables.now) a.tally a.selectors.now numbers a.status.now in
+    play-on a.guard (Release a.p) s _ _ refl c.race_at.ensures c.check_guard-answer.ensures _ c.goes.ensures _ c.if-goes.true (c.release-count.ensures.by_index a.variables.now numbers)
     )
 
 pub returns-clause-by_index : goal.returns-clause-by_index
 returns-clause-by_index c =
     let a = c.args in
     λ numbers.
-        let s = state_of (board_of a.pointers.now a.variables.now) a.tally a.selectors.now numbers a.status.now in
-        play-stop a.guard (Release a.p) s _ _ refl c.race_at.ensures c.check_guard-answer.ensures _ c.goes.ensures c.if-goes.false
+    let s = state_of (board_of a.pointers.now a.variables.now) a.tally a.selectors.now numbers a.status.now in
+    play-stop a.guard (Release a.p) s _ _ refl c.race_at.ensures c.check_guard-answer.ensures _ c.goes.ensures c.if-goes.false
