@@ -1,7 +1,7 @@
 -- One turn of the run, and its ends, as the loop over the log meets them.
 -- Assumes nothing.
 use Rattle.std.proofs.Common.{◌≡◌, ℕ, zero, suc, ◌+◌, ◌-◌, ◌<◌, ◌≤◌, Bool, true, false, cond, ltb, List, [], ◌∷◌, ◌++◌, length, take, drop, sym, refl, ap, ◌∙◌, not-suc-le-zero, arith, length-drop, drop_of_length-le, take_all, drop-drop, ltb-false, ltb-true, leb-true}
-use Rattle.fields.proofs.Passing.{Passes, all-passed, every_cut}
+use Rattle.fields.proofs.Passing.{Passes, all_passed, every_cut}
 use Rattle.fields.specs.declared.Field.{Field}
 use Rattle.fields.specs.declared.Refusal.{Refusal}
 use Rattle.fields.specs.declared.Refusal.TheVariants.{TooManyFields}
@@ -33,7 +33,7 @@ pub got_passed : (s : List ℕ) (f : Field) → read_field s ≡ Got f → Passe
 unfolding read_field field_of
 got_passed s f e =
     let g = field_of (tag_in s) (value_in s) in
-    let p = all-passed Refused (Got g) (framing_checks s ++ value_checks (row_of (tag_in s)) g) (Got f) (λ r q. let z : ◌≡◌ {A = ℕ} 0 1 = cc in omega arith) e in
+    let p = all_passed Refused (Got g) (framing_checks s ++ value_checks (row_of (tag_in s)) g) (Got f) (λ r q. let z : ◌≡◌ {A = ℕ} 0 1 = cc in omega arith) e in
     let q : Got g ≡ Got f = p.1 in
     let same : g ≡ f = cc in
     let tag : tag_in s ≡ f.tag = ap (λ (x : Field). x.tag) same in
