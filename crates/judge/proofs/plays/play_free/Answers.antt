@@ -1,6 +1,6 @@
 -- `judge::plays::play_free` meets its contract.
 use Rattle.heap.specs.Boards.{board_of}
-use Rattle.judge.proofs.Steps.{play-on, play-stop}
+use Rattle.judge.proofs.Steps.{play_on, play_stop}
 use Rattle.rules.proofs.Tallies.{fields_kept}
 use Rattle.rules.specs.declared.Change.TheVariants.{Release}
 use Rattle.rules.specs.State.{state_of}
@@ -19,7 +19,7 @@ returns-then-goes-clause-by_index c =
     rw c.count_field.ensures (
     λ numbers.
     let s = state_of (board_of a.pointers.now a.variables.now) a.tally a.selectors.now numbers a.status.now in
-    play-on a.guard (Release a.p) s _ _ refl c.race_at.ensures c.check_guard-answer.ensures _ c.goes.ensures _ c.if-goes.true (c.release-count.ensures.by_index a.variables.now numbers)
+    play_on a.guard (Release a.p) s _ _ refl c.race_at.ensures c.check_guard-answer.ensures _ c.goes.ensures _ c.if-goes.true (c.release-count.ensures.by_index a.variables.now numbers)
     )
 
 pub returns-clause-by_index : goal.returns-clause-by_index
@@ -27,4 +27,4 @@ returns-clause-by_index c =
     let a = c.args in
     λ numbers.
     let s = state_of (board_of a.pointers.now a.variables.now) a.tally a.selectors.now numbers a.status.now in
-    play-stop a.guard (Release a.p) s _ _ refl c.race_at.ensures c.check_guard-answer.ensures _ c.goes.ensures c.if-goes.false
+    play_stop a.guard (Release a.p) s _ _ refl c.race_at.ensures c.check_guard-answer.ensures _ c.goes.ensures c.if-goes.false

@@ -1,7 +1,7 @@
 -- `judge::plays::play_malloc` meets its contract.
 use Rattle.fields.specs.declared.Refusal.TheVariants.{TooManyMallocs}
 use Rattle.heap.specs.Boards.{board_of}
-use Rattle.judge.proofs.Steps.{play-full, play-on, play-stop}
+use Rattle.judge.proofs.Steps.{play_full, play_on, play_stop}
 use Rattle.rules.proofs.Tallies.{fields_kept}
 use Rattle.rules.specs.declared.Change.TheVariants.{Allocate}
 use Rattle.rules.specs.State.{state_of}
@@ -19,16 +19,16 @@ returns-then-goes-clause-status_after c =
     let a = c.args in
     let s = state_of (board_of a.pointers.now a.variables.now) a.tally a.selectors.now a.numbers.now a.status.now in
     rw c.count_field.ensures
-    (play-on a.guard (Allocate a.p a.cell a.number) s _ _ (rw (lt-ltb _ _ c.if-tally.true)) c.check_vacant.ensures c.check_guard-answer.ensures _ c.goes.ensures _ c.if-goes.true (c.give_cell-count.ensures.by_index a.variables.now))
+    (play_on a.guard (Allocate a.p a.cell a.number) s _ _ (rw (lt-ltb _ _ c.if-tally.true)) c.check_vacant.ensures c.check_guard-answer.ensures _ c.goes.ensures _ c.if-goes.true (c.give_cell-count.ensures.by_index a.variables.now))
 
 pub returns-then-tally-clause-status_after : goal.returns-then-tally-clause-status_after
 returns-then-tally-clause-status_after c =
     let a = c.args in
     let s = state_of (board_of a.pointers.now a.variables.now) a.tally a.selectors.now a.numbers.now a.status.now in
-    play-stop a.guard (Allocate a.p a.cell a.number) s _ _ (rw (lt-ltb _ _ c.if-tally.true)) c.check_vacant.ensures c.check_guard-answer.ensures _ c.goes.ensures c.if-goes.false
+    play_stop a.guard (Allocate a.p a.cell a.number) s _ _ (rw (lt-ltb _ _ c.if-tally.true)) c.check_vacant.ensures c.check_guard-answer.ensures _ c.goes.ensures c.if-goes.false
 
 pub returns-clause-status_after : goal.returns-clause-status_after
 returns-clause-status_after c =
     let a = c.args in
     let s = state_of (board_of a.pointers.now a.variables.now) a.tally a.selectors.now a.numbers.now a.status.now in
-    play-full a.guard (Allocate a.p a.cell a.number) s TooManyMallocs (rw (le-ltb _ _ c.if-tally.false))
+    play_full a.guard (Allocate a.p a.cell a.number) s TooManyMallocs (rw (le-ltb _ _ c.if-tally.false))

@@ -1,5 +1,5 @@
 -- `judge::replay::replay_lent` meets its contract.
-use Rattle.judge.proofs.Replaying.{replay-accepted, replay-kept}
+use Rattle.judge.proofs.Replaying.{replay-accepted, replay_kept}
 use Rattle.rules.specs.Judging.{lent}
 use Rattle.judge.proofs.replay.replay_lent.Goals as goal
 
@@ -15,14 +15,14 @@ returns-in-Accepted c =
 pub returns-in-Raced : goal.returns-in-Raced
 returns-in-Raced c =
     let ran = c.run_lent-judged in
-    λ tally. replay-kept c.args.log.now _ ran.result.verdict _ (ran.ensures.tally_after tally) c.args.out.now (λ h. rw c.in-Raced.is at h)
+    λ tally. replay_kept c.args.log.now _ ran.result.verdict _ (ran.ensures.tally_after tally) c.args.out.now (λ h. rw c.in-Raced.is at h)
 
 pub returns-in-Refused : goal.returns-in-Refused
 returns-in-Refused c =
     let ran = c.run_lent-judged in
-    λ tally. replay-kept c.args.log.now _ ran.result.verdict _ (ran.ensures.tally_after tally) c.args.out.now (λ h. rw c.in-Refused.is at h)
+    λ tally. replay_kept c.args.log.now _ ran.result.verdict _ (ran.ensures.tally_after tally) c.args.out.now (λ h. rw c.in-Refused.is at h)
 
 pub returns-in-Declined : goal.returns-in-Declined
 returns-in-Declined c =
     let ran = c.run_lent-judged in
-    λ tally. replay-kept c.args.log.now _ ran.result.verdict _ (ran.ensures.tally_after tally) c.args.out.now (λ h. rw c.in-Declined.is at h)
+    λ tally. replay_kept c.args.log.now _ ran.result.verdict _ (ran.ensures.tally_after tally) c.args.out.now (λ h. rw c.in-Declined.is at h)
