@@ -24,23 +24,23 @@ room tally answer h =
 
 -- ---- the calls
 module _ (log pointers selectors variables numbers status tally answer : List ℕ) where
-  pub judge-no-room : has_room tally answer ≡ false → left no_room pointers selectors variables numbers status tally answer ≡ judge_call log pointers selectors variables numbers status tally answer
+  pub judge_no_room : has_room tally answer ≡ false → left no_room pointers selectors variables numbers status tally answer ≡ judge_call log pointers selectors variables numbers status tally answer
   unfolding judge_call
-  judge-no-room h = rw h
+  judge_no_room h = rw h
 
-  pub judge-told : has_room tally answer ≡ true → (before after : Tally) (verdict : Verdict) (returns : ℕ) (p' s' v' n' t' tally' answer' : List ℕ)
+  pub judge_told : has_room tally answer ≡ true → (before after : Tally) (verdict : Verdict) (returns : ℕ) (p' s' v' n' t' tally' answer' : List ℕ)
       → before ≡ tally_in tally → Judges log pointers selectors variables numbers status before verdict after p' s' v' n' t'
       → Tells verdict after tally answer returns tally' answer'
       → left returns p' s' v' n' t' tally' answer' ≡ judge_call log pointers selectors variables numbers status tally answer
   unfolding judge_call
-  judge-told h before after verdict returns p' s' v' n' t' tally' answer' start judges tells =
+  judge_told h before after verdict returns p' s' v' n' t' tally' answer' start judges tells =
       rw (tells.kind, tells.done, tells.said, h)
       (ap (λ (j : Judged). told j.verdict j.after tally answer) (rw start at judges))
 
 module _ (log out pointers selectors variables numbers status tally answer : List ℕ) where
-  pub replay-no-room : has_room tally answer ≡ false → replay_left out (left no_room pointers selectors variables numbers status tally answer) ≡ replay_call log out pointers selectors variables numbers status tally answer
+  pub replay_no_room : has_room tally answer ≡ false → replay_left out (left no_room pointers selectors variables numbers status tally answer) ≡ replay_call log out pointers selectors variables numbers status tally answer
   unfolding replay_call
-  replay-no-room h = rw h
+  replay_no_room h = rw h
 
   pub replay-told : has_room tally answer ≡ true → (before after : Tally) (verdict : Verdict) (returns : ℕ) (out' p' s' v' n' t' tally' answer' : List ℕ)
       → before ≡ tally_in tally → Replays log out pointers selectors variables numbers status before verdict after out' p' s' v' n' t'

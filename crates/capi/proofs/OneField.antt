@@ -32,13 +32,13 @@ module _ (part : List ℕ) (place : ℕ) (field : List ℕ) where
 
 -- ---- writing
 module _ (field out answer : List ℕ) where
-  pub write-no-field : length field < field_places → write_left too_short out answer ≡ write_call field out answer
+  pub write_no_field : length field < field_places → write_left too_short out answer ≡ write_call field out answer
   unfolding write_call
-  write-no-field h = rw (lt-leb field_places (length field) h)
+  write_no_field h = rw (lt-leb field_places (length field) h)
 
-  pub write-no-answer : field_places ≤ length field → length answer < 1 → write_left too_short out answer ≡ write_call field out answer
+  pub write_no_answer : field_places ≤ length field → length answer < 1 → write_left too_short out answer ≡ write_call field out answer
   unfolding write_call
-  write-no-answer h k = rw (le-leb field_places (length field) h, lt-leb 1 (length answer) k)
+  write_no_answer h k = rw (le-leb field_places (length field) h, lt-leb 1 (length answer) k)
 
   pub write-told : field_places ≤ length field → 1 ≤ length answer → (f : Field) (w : Written) (out' : List ℕ) → f ≡ field_in field → writing w out' ≡ write_field f out → write_told w out' answer ≡ write_call field out answer
   unfolding write_call

@@ -1,5 +1,7 @@
 // The C interface: the judge, the replay, and one field read or written, over plain numbers and slices.
 // In C each slice is two arguments, a pointer and a length in elements; include/thawhazel.h has the declarations.
+#![tactic(auto)]
+
 mod fronts;
 mod judging;
 mod single;
