@@ -1,9 +1,12 @@
 // Reads and writes single fields that stand at the edges of document 01's checks, and prints what comes back.
 // Records on standard input: a size byte, then 0 and a part to read, or 1, a field's numbers and the room to write it in.
+#![tactic(auto)]
+
 ghost use Rattle.std.specs.Prelude.{◌≡◌};
 
 use fields::{Field, Read, RecordedCell, Written};
-use libc::{STDIN_FILENO, STDOUT_FILENO};
+use std::io::{Result, Stdout};
+use streams::{read_into, write_whole};
 
 // What an output holds before a field is written, so that a byte that was written is seen.
 const BEFORE: u8 = 0xee;
@@ -13,50 +16,55 @@ const ROOM: usize = 24;
 // The place of every part that is read: the last of the longest log.
 const PLACE: u32 = 45_055;
 
-fn word(text: &[u8]) {
-    io::write_all(STDOUT_FILENO, text);
+fn word(mut out: Stdout, text: &[u8]) -> Result<()> {
+    write_whole(&mut out, text)
 }
 
-fn number(n: u64) {
-    word(b" ");
-    io::print_decimal(STDOUT_FILENO, n);
+fn number(out: Stdout, n: u64) -> Result<()> {
+    word(out, b" ")?;
+    let mut digits = [0u8; 20];
+    let count = io::decimal(n, &mut digits);
+    word(out, &digits[..count])
 }
 
-fn hex(byte: u8) {
-    io::print_hex(STDOUT_FILENO, byte as u64, 2);
+fn hex(out: Stdout, byte: u8) -> Result<()> {
+    let mut digits = [0u8; 16];
+    let count = io::hex(byte as u64, 2, &mut digits);
+    word(out, &digits[..count])
 }
 
-fn show_bytes(bytes: &[u8; ROOM]) {
-    word(b" ");
+fn show_bytes(out: Stdout, bytes: &[u8; ROOM]) -> Result<()> {
+    word(out, b" ")?;
     for i in 0..ROOM {
-        hex(bytes[i]);
+        hex(out, bytes[i])?;
     }
+    Ok(())
 }
 
-fn show_field(f: Field) {
-    word(b"got");
-    number(f.tag as u64);
-    number(f.thread as u64);
-    number(f.first as u64);
-    number(f.second as u64);
-    number(f.third as u64);
-    number(f.cell.0 as u64);
-    number(f.number as u64);
+fn show_field(out: Stdout, f: Field) -> Result<()> {
+    word(out, b"got")?;
+    number(out, f.tag as u64)?;
+    number(out, f.thread as u64)?;
+    number(out, f.first as u64)?;
+    number(out, f.second as u64)?;
+    number(out, f.third as u64)?;
+    number(out, f.cell.0 as u64)?;
+    number(out, f.number as u64)
 }
 
-fn show_read(part: &[u8]) {
+fn show_read(out: Stdout, part: &[u8]) -> Result<()> {
     match fields::read_field(part, PLACE) {
         Read::Got(f, offset) => {
-            show_field(f);
-            number(offset as u64);
+            show_field(out, f)?;
+            number(out, offset as u64)?;
         }
         Read::Refused(why, offset) => {
-            word(b"refused");
-            number(why.number() as u64);
-            number(offset as u64);
+            word(out, b"refused")?;
+            number(out, why.number() as u64)?;
+            number(out, offset as u64)?;
         }
     }
-    word(b"\n");
+    word(out, b"\n")
 }
 
 fn u16_of(low: u8, high: u8) -> u16 {
@@ -67,31 +75,32 @@ fn u32_of(low: u16, high: u16) -> u32 {
     (low as u32) + 65_536 * (high as u32)
 }
 
-fn show_write(field: Field, space: u8) {
+fn show_write(out: Stdout, field: Field, space: u8) -> Result<()> {
     let room = space as usize;
-    let mut out = [BEFORE; ROOM];
+    let mut written = [BEFORE; ROOM];
     if room <= ROOM {
-        match fields::write_field(field, &mut out[..room]) {
+        match fields::write_field(field, &mut written[..room]) {
             Written::Bytes(n) => {
-                word(b"bytes");
-                number(n as u64);
+                word(out, b"bytes")?;
+                number(out, n as u64)?;
             }
             Written::Refused(why) => {
-                word(b"refused");
-                number(why.number() as u64);
+                word(out, b"refused")?;
+                number(out, why.number() as u64)?;
             }
         }
-        show_bytes(&out);
-        word(b"\n");
+        show_bytes(out, &written)?;
+        word(out, b"\n")?;
     }
+    Ok(())
 }
 
-fn show(record: &[u8]) {
+fn show(out: Stdout, record: &[u8]) -> Result<()> {
     if record.len() == 0 {
-        return;
+        return Ok(());
     }
     if record[0] == 0 {
-        return show_read(&record[1..]);
+        return show_read(out, &record[1..]);
     }
     if record.len() == 13 {
         let field = Field {
@@ -103,8 +112,9 @@ fn show(record: &[u8]) {
             cell: RecordedCell(u16_of(record[6], record[7])),
             number: u32_of(u16_of(record[8], record[9]), u16_of(record[10], record[11])),
         };
-        show_write(field, record[12]);
+        return show_write(out, field, record[12]);
     }
+    Ok(())
 }
 
 fn wide(byte: u8) -> usize
@@ -113,17 +123,22 @@ fn wide(byte: u8) -> usize
     byte as usize
 }
 
-fn main() {
+fn main(rt: HostRuntime) -> Result<()> {
     let mut input = io::large_buffer();
-    let n = io::read_full(STDIN_FILENO, &mut input);
+    let read = read_into(&mut rt.stdin(), &mut input);
+    if let Some(error) = read.error {
+        return Err(error);
+    }
+    let n = read.length;
     let mut at = 0;
     while at < n {
         let size = wide(input[at]);
         at += 1;
         if n - at < size {
-            return;
+            return Ok(());
         }
-        show(&input[at..at + size]);
+        show(rt.stdout(), &input[at..at + size])?;
         at += size;
     }
+    Ok(())
 }

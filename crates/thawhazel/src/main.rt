@@ -1,12 +1,14 @@
 // The program behind ./thawhazel: judges the log on standard input and prints its verdict, one line, as document 01 prints it.
 // What is judged is proved in the crates below; here a log is read and a verdict printed. Its stored input is document 01's case C.
-use console::{ROOM, end_line, finish, is_read, put_verdict};
+#![tactic(auto)]
+
+use console::{Ends, ROOM, Target, end_line, finish, is_read, put_verdict, tell_failed};
 use fields::Log;
-use libc::{STDIN_FILENO, STDOUT_FILENO};
 use rules::{Board, Heap, Tally};
+use std::process::ExitCode;
 
 // Whether the verdict was written.
-fn answer(log: &[u8]) -> bool {
+fn answer(ends: Ends, log: &[u8]) -> bool {
     let board = Board::fresh();
     let mut pointers = board.pointers;
     let mut variables = board.variables;
@@ -25,19 +27,25 @@ fn answer(log: &[u8]) -> bool {
     );
     let verdict = judged.verdict;
     let mut text = [0u8; ROOM];
-    let at = put_verdict(&mut text, 0, verdict);
-    end_line(STDOUT_FILENO, &mut text, at)
+    let at = put_verdict(ends, &mut text, 0, verdict);
+    end_line(ends, Target::Output, &mut text, at)
 }
 
 // A log that fills the room is longer than a log may be.
-fn main() {
+fn main(rt: HostRuntime) -> ExitCode {
+    let ends = Ends {
+        input: rt.stdin(),
+        output: rt.stdout(),
+        error: rt.stderr(),
+    };
     let mut bytes = [0u8; Log::ROOM];
-    let read = streams::read_into(STDIN_FILENO, &mut bytes);
+    let read = streams::read_into(&mut rt.stdin(), &mut bytes);
     let length = read.length;
     let stop = read.stop;
-    if is_read(stop) {
-        if answer(&bytes[..length]) {
-            finish(stop);
+    if is_read(ends, stop, read.error) {
+        if answer(ends, &bytes[..length]) {
+            return finish(ends, stop);
         }
     }
+    tell_failed()
 }
