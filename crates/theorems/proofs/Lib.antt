@@ -25,3 +25,8 @@ pub mod PaperAllowed
 pub mod PaperDemands
 pub mod Cas
 pub mod Shown
+pub mod Counts
+pub mod Renewed
+pub mod PaperHeaps
+pub mod Reused
+pub mod Stopped
