@@ -27,6 +27,8 @@ pub mod Cas
 pub mod Shown
 pub mod Counts
 pub mod Renewed
+pub mod Renewals
+pub mod CopiedLog
 pub mod PaperHeaps
 pub mod Reused
 pub mod Stopped
