@@ -194,6 +194,27 @@ PointerRace valid (ReadData x p) = NotValid valid p
 PointerRace valid (WriteData p x) = NotValid valid p
 PointerRace valid (Compute x op xs) = ⊥
 
+-- the pointers of which that is asked, in the order in which the command names them; and that one of some pointers is not valid
+abbrev pub pointers_of : Cond → List ℕ
+pointers_of (same_pointers p q) = p ∷ q ∷ []
+pointers_of (same_data x y) = []
+pointers_of (negated c) = pointers_of c
+
+abbrev pub contained : Com → List ℕ
+contained (Assert c) = pointers_of c
+contained (Malloc p) = []
+contained (Free p) = p ∷ []
+contained (Load p q i) = q ∷ []
+contained (Store p i q) = p ∷ []
+contained (Copy p q) = []
+contained (ReadData x p) = p ∷ []
+contained (WriteData p x) = p ∷ []
+contained (Compute x op xs) = []
+
+abbrev pub SomeNotValid : (PExp → Bool) → List ℕ → Type 0
+SomeNotValid valid [] = ⊥
+SomeNotValid valid (p ∷ ps) = NotValid valid p ⊎ SomeNotValid valid ps
+
 abbrev pub RaceFree : Computation → Type 0
 RaceFree (initial d) = Unit {0}
 RaceFree (then τ act) = RaceFree τ × (PointerRace (valid_in τ) act.command → ⊥)
