@@ -23,7 +23,7 @@ use Rattle.rules.specs.Commands.{act_of}
 use Rattle.rules.specs.Check.{check}
 use Rattle.rules.specs.Effect.{effect}
 use Rattle.rules.specs.Acts.{gives}
-use Rattle.rules.specs.Run.{Accepted, End, Ending, Outcome, Raced, Refused, end_verdict, next, run_to, unread, whole}
+use Rattle.rules.specs.Run.{Accepted, End, Outcome, Raced, Refused, next, run_to, unread, whole}
 use Rattle.rules.specs.Log.{parse, run_bytes}
 use Rattle.theorems.specs.Paper.{Com, Computation, Lemma2, NotValid, PExp, cell, defined, index, initial, next_of, valid_in}
 use Rattle.theorems.specs.Beside.{Computed, FirstNotValid, NoSeg, RaceIn, Shows, Steps, Takes, contained_in, is_there, passing, place_of, pval_of}

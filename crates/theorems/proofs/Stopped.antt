@@ -13,10 +13,10 @@ use Rattle.rules.specs.State.{State, fresh}
 use Rattle.rules.specs.Check.{check}
 use Rattle.rules.specs.Commands.{act_of}
 use Rattle.rules.specs.Effect.{effect}
-use Rattle.rules.specs.Run.{End, Outcome, end_verdict, next, run, run_to, unread, whole}
+use Rattle.rules.specs.Run.{End, Outcome, end_verdict, run, run_to, unread, whole}
 use Rattle.rules.specs.Log.{end_field, parse, run_bytes}
 use Rattle.rules.proofs.Tallies.{counted}
-use Rattle.theorems.specs.Beside.{before_stop, passing}
+use Rattle.theorems.specs.Beside.{passing}
 use Rattle.theorems.proofs.Shown.{fresh_fields}
 
 -- an accepted outcome that leaves this state
