@@ -32,3 +32,7 @@ pub mod CopiedLog
 pub mod PaperHeaps
 pub mod Reused
 pub mod Stopped
+pub mod Sizes
+pub mod CaseBytes
+pub mod Fetching
+pub mod Refusing
