@@ -36,3 +36,5 @@ pub mod Sizes
 pub mod CaseBytes
 pub mod Fetching
 pub mod Refusing
+pub mod Results
+pub mod FakeReplays

@@ -1,24 +1,32 @@
 -- What every refusal is that the contracts of reading and writing allow: one of the numbers that document 01 names for it, with field number
--- 0; of a field that is read it tells the part's place, of one that is written it leaves the output as it was. Assumes nothing.
+-- 0; of a field that is read it tells the part's place, of one that is written it leaves the output as it was. So too of showing a field.
+-- Assumes nothing.
 use mathlib.Core.Bool.{Bool, true, false, cond}
 use mathlib.Core.List.{List, [], ◌∷◌, ◌++◌}
 use mathlib.Core.Logic.{◌⊎◌, inl, inr}
 use mathlib.Core.Path.{◌≡◌, ◌∙◌, ap, refl}
 use native.Mathlib.Omega.{arith}
+use lib.Dec.{leb, ltb}
 use lib.ListN.{drop, length}
 use Prim.Native.Nat.{ℕ, ◌≤◌}
 use Rattle.fields.specs.declared.Field.{Field}
 use Rattle.fields.specs.declared.Read.TheVariants as read
 use Rattle.fields.specs.declared.Refusal.{Refusal}
+use Rattle.fields.specs.declared.Refusal.TheVariants.{FieldNotReached, LogTooLong}
 use Rattle.fields.specs.declared.Written.TheVariants as written
 use Rattle.fields.specs.Checks.{value_checks}
 use Rattle.fields.specs.Every.{Every}
-use Rattle.fields.specs.Order.{Test, in_order}
+use Rattle.fields.specs.Limits.{log_bytes}
+use Rattle.fields.specs.Order.{Test, in_order, test}
 use Rattle.fields.specs.Read.{Got, Refused, field_of, framing_checks, placed, read_field, tag_in, value_in}
 use Rattle.fields.specs.Refusals.{number_of}
 use Rattle.fields.specs.Rows.{row_of}
 use Rattle.fields.specs.Write.{Writing, field_bytes, write_field, writing, writing_checks}
-use Rattle.theorems.specs.Answers.{numbered, read_line, written_line}
+use Rattle.rules.specs.declared.Shown.{Shown}
+use Rattle.rules.specs.declared.Shown.TheVariants as shown
+use Rattle.rules.specs.Log.{offset_of}
+use Rattle.rules.specs.Showing.{fields_read, shown_in, size_in}
+use Rattle.theorems.specs.Answers.{numbered, read_line, shown_line, written_line}
 
 -- what tests in order come to: what is said where all pass, or what one of them says
 module _ {B : Type 0} (stop : Refusal → B) (done : B) (P : Refusal → Type 0) where
@@ -112,3 +120,18 @@ write_refused f out r out' e =
         let same = ap (λ (w : Writing). w.answer) (e ∙ s.1) in
         let which : r ≡ s.0 = cc in
         (rw which s.2, refl, ap (λ (w : Writing). w.output) (e ∙ s.1))
+
+-- ---- showing: 1 or 16
+pub show_refused : (log : List ℕ) (n : ℕ) (r : Refusal) (field : ℕ) → shown.Refused r field ≡ shown_in log n
+    → ((number_of r ≡ 1) ⊎ (number_of r ≡ 16)) × (shown_line (shown.Refused r field) ≡ numbered (number_of r) (0 ∷ []))
+unfolding shown_in
+show_refused log n r field e = by (leb (length log) log_bytes) (ltb n (length (fields_read log))) e
+  where
+    found : Shown
+    found = shown.Part (offset_of n log) (size_in (drop (offset_of n log) log))
+
+    by : (short reached : Bool) → shown.Refused r field ≡ in_order (λ (q : Refusal). shown.Refused q 0) found (test short LogTooLong ∷ test reached FieldNotReached ∷ [])
+        → ((number_of r ≡ 1) ⊎ (number_of r ≡ 16)) × (shown_line (shown.Refused r field) ≡ numbered (number_of r) (0 ∷ []))
+    by true true q = absurd (let z : ◌≡◌ {A = ℕ} 0 1 = cc in omega arith)
+    by true false q = let which : r ≡ FieldNotReached = cc in let where_ : field ≡ 0 = cc in (inr (ap number_of which), rw where_ refl)
+    by false reached q = let which : r ≡ LogTooLong = cc in let where_ : field ≡ 0 = cc in (inl (ap number_of which), rw where_ refl)
