@@ -2,14 +2,14 @@
 # Links the C program tests/capi/example.c with the C interface, and compares what it prints with tests/capi/expected.
 #   tests/capi.sh        by the machine's C compiler where it is x86-64 and has one, else by the kit's
 #   tests/capi.sh kit    by the kit's clang, with the few headers of tests/capi/headers
-# The archive is x86-64 code: on Arm the program runs under the kit's emulator.
+# The archive is x86-64 code, and so are the kit's tools.
 set -eu
 cd "$(dirname "$0")/.."
 made=target/capi
-archive=target/staticlib/libcapi.a
+archive=crates/capi/out/libcapi.a
 strict='-std=c11 -O2 -Wall -Wextra -Werror -pedantic'
 mkdir -p "$made"
-rt staticlib capi > "$made/log" 2>&1 || { tail -n 20 "$made/log"; echo 'capi: rt staticlib capi failed'; exit 1; }
+(cd crates/capi && rt lib) > "$made/log" 2>&1 || { tail -n 20 "$made/log"; echo 'capi: rt lib failed in crates/capi'; exit 1; }
 
 by_host() {
     cc $strict -Iinclude tests/capi/example.c "$archive" -o "$made/example"
@@ -17,17 +17,15 @@ by_host() {
 }
 
 by_kit() {
-    kit=$(dirname "$(dirname "$(rt doc)")")
-    tools=$kit/on/$(uname -m)/toolchain/bin
+    kit=$(dirname "$(rt doc)")
+    tools=$kit/toolchain/bin
     lib=$kit/toolchain/lib
     "$tools/clang" --target=x86_64-unknown-linux-gnu $strict -fPIC -nostdinc -Itests/capi/headers -Iinclude \
         -c tests/capi/example.c -o "$made/example.o"
     "$tools/ld.lld" -pie -dynamic-linker /lib64/ld-linux-x86-64.so.2 -o "$made/example" \
         "$lib/Scrt1.o" "$lib/crti.o" "$lib/crtbeginS.o" "$made/example.o" "$archive" \
         "$lib/libc.so.6" "$lib/libc_nonshared.a" "$lib/libgcc.a" "$lib/crtendS.o" "$lib/crtn.o"
-    emulator=
-    if [ "$(uname -m)" != x86_64 ]; then emulator=$tools/qemu-x86_64; fi
-    $emulator "$lib/ld-linux-x86-64.so.2" --library-path "$lib" "$made/example" > "$made/printed"
+    "$lib/ld-linux-x86-64.so.2" --library-path "$lib" "$made/example" > "$made/printed"
 }
 
 if [ "${1:-}" != kit ] && [ "$(uname -m)" = x86_64 ] && command -v cc > /dev/null; then

@@ -1,66 +1,132 @@
-// What the programs share: whether the input was read, a text and how it is written, and the word that tells that all went well.
+// What the programs share: whether the input was read, a text and how it is written, and the status that tells that all went well.
 // No contract can say what is read or written; what the answers of the system mean is proved in `streams`, and what is judged
 // and how it is told in the crates below.
+#![tactic(auto)]
+
 mod text;
 
 ghost use Rattle.streams.specs.Reading.{is_read};
-ghost use Rattle.std.specs.Prelude.{◌≡◌};
+ghost use Rattle.std.specs.Prelude.{◌≡◌, ◌≤◌, length};
 
-use libc::{STDERR_FILENO, STDIN_FILENO};
+use std::io::{Error, Stderr, Stdin, Stdout, Write};
+use std::process::ExitCode;
 use streams::{Stop, is_full, read_into, write_whole};
 pub use text::{
     ROOM, end_line, put, put_after_space, put_all, put_byte, put_number, put_verdict, write_front,
 };
 
-// Where ./thawhazel listens for a word on how the program ended. A program that was started by hand has no such descriptor.
-const LAUNCHER: i32 = 3;
+// The three streams that a program is given.
+#[derive(Clone, Copy)]
+pub struct Ends {
+    pub input: Stdin,
+    pub output: Stdout,
+    pub error: Stderr,
+}
+
+// Where a text goes.
+#[derive(Clone, Copy)]
+pub enum Target {
+    Output,
+    Error,
+}
+
+// The exit status by which ./thawhazel knows that there is no whole answer, and that it was said why.
+const NOT_WHOLE: u8 = 2;
 
 // More chunks than any input has.
 const CHUNKS: u64 = 0xffff_ffff_ffff_ffff;
 
-// Says on standard error what failed and, by `errno`, why; and to the launcher that it was said.
-fn say_failed(what: &[u8]) {
-    os::fail(what);
-    write_whole(LAUNCHER, b"failed\n");
+const REASON: usize = 256;
+
+// How many bytes of an error's text are what the system says; its number stands after them, in parentheses.
+fn without_number(text: &[u8]) -> usize
+    ensures { result ≤ length text.now }
+{
+    let mut end = text.len();
+    for i in 1..text.len() {
+        if text[i] == b'(' {
+            end = i - 1;
+        }
+    }
+    end
 }
 
-// Says why reading failed, right after it did.
-pub fn say_unread() {
-    say_failed(b"thawhazel: standard input");
+// Puts why a call failed, as the system says it, at the room's start, and returns how many bytes that takes.
+fn put_reason(room: &mut [u8; REASON], why: Error) -> usize
+    ensures { result ≤ REASON }
+{
+    let mut rest: &mut [u8] = room;
+    let _ = write!(rest, "{why}");
+    let length = REASON.saturating_sub(rest.len());
+    if why.raw_os_error().is_none() {
+        return length;
+    }
+    without_number(&room[..length])
+}
+
+// Says on standard error what failed and why. Nothing is left to do where that cannot be said.
+fn say_failed(ends: Ends, what: &[u8], why: Error) {
+    let mut error = ends.error;
+    let mut room = [0u8; REASON];
+    let length = put_reason(&mut room, why);
+    let _ = write_whole(&mut error, what);
+    let _ = write_whole(&mut error, b": ");
+    let _ = write_whole(&mut error, &room[..length]);
+    let _ = write_whole(&mut error, b"\n");
+}
+
+// Says why reading failed.
+pub fn say_unread(ends: Ends, why: Option<Error>) {
+    let why = why.unwrap_or(Error::other("no reason is known"));
+    say_failed(ends, b"thawhazel: standard input", why);
 }
 
 // Whether reading stopped as it should. Where not, a line on standard error says why.
-pub fn is_read(stop: Stop) -> bool
+pub fn is_read(ends: Ends, stop: Stop, why: Option<Error>) -> bool
     ensures { result ≡ is_read stop }
 {
     match stop {
         Stop::Full => true,
         Stop::Ended => true,
         Stop::Broken => {
-            say_unread();
+            say_unread(ends, why);
             false
         }
     }
 }
 
 // Writes all of it. Where that fails, a line on standard error says why.
-fn write_out(fd: i32, bytes: &[u8]) -> bool {
-    if write_whole(fd, bytes) {
-        return true;
+fn write_out(ends: Ends, target: Target, bytes: &[u8]) -> bool {
+    match target {
+        Target::Output => {
+            let mut output = ends.output;
+            match write_whole(&mut output, bytes) {
+                Ok(()) => true,
+                Err(why) => {
+                    say_failed(ends, b"thawhazel: standard output", why);
+                    false
+                }
+            }
+        }
+        Target::Error => {
+            let mut error = ends.error;
+            match write_whole(&mut error, bytes) {
+                Ok(()) => true,
+                Err(why) => {
+                    say_failed(ends, b"thawhazel: standard error", why);
+                    false
+                }
+            }
+        }
     }
-    if fd == STDERR_FILENO {
-        say_failed(b"thawhazel: standard error");
-    } else {
-        say_failed(b"thawhazel: standard output");
-    }
-    false
 }
 
 // What is left of standard input, read away, so that whoever writes it is not cut off. The answer is out, and needs none of it.
-fn drain() {
+fn drain(ends: Ends) {
+    let mut input = ends.input;
     let mut chunk = io::buffer();
     for _ in 0..CHUNKS {
-        let read = read_into(STDIN_FILENO, &mut chunk);
+        let read = read_into(&mut input, &mut chunk);
         let stop = read.stop;
         if !is_full(stop) {
             return;
@@ -68,15 +134,20 @@ fn drain() {
     }
 }
 
-// Tells the launcher that everything was read and written whole. A program that fails never comes here.
-pub fn tell_whole() {
-    write_whole(LAUNCHER, b"whole\n");
+// The status by which the launcher knows that everything was read and written whole. A program that fails never comes here.
+pub fn tell_whole() -> ExitCode {
+    ExitCode::SUCCESS
+}
+
+// The status by which it knows that something was not, and that a line on standard error says why.
+pub fn tell_failed() -> ExitCode {
+    ExitCode::from(NOT_WHOLE)
 }
 
 // The end of a program that answered on one log.
-pub fn finish(stop: Stop) {
+pub fn finish(ends: Ends, stop: Stop) -> ExitCode {
     if is_full(stop) {
-        drain();
+        drain(ends);
     }
-    tell_whole();
+    tell_whole()
 }

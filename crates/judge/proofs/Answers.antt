@@ -22,18 +22,18 @@ module _ {K : Type 0} (passes : K → Bool) (says : K → Answer) (stops : (k : 
   each_append [] ms = refl
   each_append (k ∷ ks) ms = rw (each_append ks ms)
 
-  first-cond : (b : Bool) (k : K) (x y : Answer) → first (cond b x (says k)) y ≡ cond b (first x y) (says k)
-  first-cond true k x y = refl
-  first-cond false k x y = stops k y
+  first_cond : (b : Bool) (k : K) (x y : Answer) → first (cond b x (says k)) y ≡ cond b (first x y) (says k)
+  first_cond true k x y = refl
+  first_cond false k x y = stops k y
 
-  answer-then : (ks : List K) (later : List (Test Answer)) → answer_of (each passes says ks ++ later) ≡ first (answer_of (each passes says ks)) (answer_of later)
-  answer-then [] later = refl
-  answer-then (k ∷ ks) later =
-      ap (λ (x : Answer). cond (passes k) x (says k)) (answer-then ks later)
-      ∙ sym (first-cond (passes k) k (answer_of (each passes says ks)) (answer_of later))
+  answer_then : (ks : List K) (later : List (Test Answer)) → answer_of (each passes says ks ++ later) ≡ first (answer_of (each passes says ks)) (answer_of later)
+  answer_then [] later = refl
+  answer_then (k ∷ ks) later =
+      ap (λ (x : Answer). cond (passes k) x (says k)) (answer_then ks later)
+      ∙ sym (first_cond (passes k) k (answer_of (each passes says ks)) (answer_of later))
 
   answer-append : (ks ms : List K) → answer_of (each passes says (ks ++ ms)) ≡ first (answer_of (each passes says ks)) (answer_of (each passes says ms))
-  answer-append ks ms = rw (each_append ks ms) (answer-then ks (each passes says ms))
+  answer-append ks ms = rw (each_append ks ms) (answer_then ks (each passes says ms))
 
 -- one answer after the other, however they are put together
 first-first : (x y z : Answer) → first (first x y) z ≡ first x (first y z)
@@ -59,7 +59,7 @@ through_looks pointers to from ps qs a e f g = rw (← e, ← f) g
 
 -- all the checks
 module _ (a : Act) (s : State) where
-  check-parts : first (room_in s.mallocs (gives a.change))
+  check_parts : first (room_in s.mallocs (gives a.change))
       (first (races_in s.pointers (compared a.guard))
       (first (races_in s.pointers (frees a.change))
       (first (races_in s.pointers (through a.change))
@@ -67,12 +67,12 @@ module _ (a : Act) (s : State) where
       (first (vacant_in s.status (gives a.change)) (cond (holds s a.guard) Go (Refuse AssertionFails)))))))
       ≡ check a s
   unfolding check_by
-  check-parts =
+  check_parts =
       rw (
-        answer-then (room_for s) (λ c. Refuse TooManyMallocs) (λ k z. refl),
-        answer-then (valid s) Race (λ k z. refl),
-        answer-then (points s) (λ p. Refuse UnsetPointer) (λ k z. refl),
-        answer-then (vacant s) (λ c. Refuse LiveCell) (λ k z. refl),
+        answer_then (room_for s) (λ c. Refuse TooManyMallocs) (λ k z. refl),
+        answer_then (valid s) Race (λ k z. refl),
+        answer_then (points s) (λ p. Refuse UnsetPointer) (λ k z. refl),
+        answer_then (vacant s) (λ c. Refuse LiveCell) (λ k z. refl),
         answer-append (valid s) Race (λ k z. refl) (compared a.guard) (frees a.change ++ through a.change),
         answer-append (valid s) Race (λ k z. refl) (frees a.change) (through a.change),
         first-first (races_in s.pointers (compared a.guard)),
@@ -82,8 +82,8 @@ module _ (a : Act) (s : State) where
 -- by the kind of the change
 pub check_kinds : (g : Guard) (c : Change) (s : State)
     → first (room_in s.mallocs (gives c)) (guarded_in s.pointers s.variables g (check_change c s)) ≡ check (record { guard = g; change = c }) s
-check_kinds g Stay s = check-parts (record { guard = g; change = Stay }) s
-check_kinds g (Allocate p c d) s = check-parts (record { guard = g; change = Allocate p c d }) s
-check_kinds g (Release p) s = check-parts (record { guard = g; change = Release p }) s
-check_kinds g (Move x y) s = rw (first-first (races_in s.pointers (through (Move x y)))) (check-parts (record { guard = g; change = Move x y }) s)
-check_kinds g (Put x v) s = rw (first-first (races_in s.pointers (through (Put x v)))) (check-parts (record { guard = g; change = Put x v }) s)
+check_kinds g Stay s = check_parts (record { guard = g; change = Stay }) s
+check_kinds g (Allocate p c d) s = check_parts (record { guard = g; change = Allocate p c d }) s
+check_kinds g (Release p) s = check_parts (record { guard = g; change = Release p }) s
+check_kinds g (Move x y) s = rw (first-first (races_in s.pointers (through (Move x y)))) (check_parts (record { guard = g; change = Move x y }) s)
+check_kinds g (Put x v) s = rw (first-first (races_in s.pointers (through (Put x v)))) (check_parts (record { guard = g; change = Put x v }) s)

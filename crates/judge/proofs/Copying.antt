@@ -39,8 +39,8 @@ module _ (s : State) (f : Field) (right : Every Passes (value_checks (row_of f.t
   right_by (Move x y) h = right
   right_by (Put x v) h = right
 
-  copy-right : check (act_of f) s ≡ Go → Every Passes (value_checks (row_of f.tag) (copy_field s (next_cell s) f))
-  copy-right e =
+  copy_right : check (act_of f) s ≡ Go → Every Passes (value_checks (row_of f.tag) (copy_field s (next_cell s) f))
+  copy_right e =
       let a = act_of f in
       right_by a.change (passed_by (each (valid s) Race (touched a)) a s (each-stops (valid s) Race (touched a) race-stops) e).room
 
@@ -58,8 +58,8 @@ module _ (out bytes : List ℕ) (at : ℕ) (room : at + length bytes ≤ length 
   written-front : take (at + length bytes) after ≡ take at out ++ bytes
   written-front = rw apart (take_at (take at out ++ bytes) (drop (at + length bytes) out) (at + length bytes) front)
 
-  written-rest : (end : ℕ) → at + length bytes ≤ end → drop end after ≡ drop end out
-  written-rest end past =
+  written_rest : (end : ℕ) → at + length bytes ≤ end → drop end after ≡ drop end out
+  written_rest end past =
       let i = end - (at + length bytes) in
       let split : end ≡ at + length bytes + i = omega arith in
       rw (apart, split)
@@ -67,7 +67,7 @@ module _ (out bytes : List ℕ) (at : ℕ) (room : at + length bytes ≤ length 
 
   -- what is written is the first of what was still to be written
   spliced : (rest : List ℕ) (end : ℕ) → at + length bytes ≤ end → take (at + length bytes) after ++ (rest ++ drop end after) ≡ take at out ++ ((bytes ++ rest) ++ drop end out)
-  spliced rest end past = rw (written-front, written-rest end past) (simp append_assoc)
+  spliced rest end past = rw (written-front, written_rest end past) (simp append_assoc)
 
 -- the output as the code leaves it, which writes in a part of it
 pub copied_at_lem : (out : List ℕ) (at : ℕ) → at < length out → (copy f : Field) → copy ≡ f → (answer : Written) (bytes : List ℕ) → writing answer bytes ≡ write_field copy (take (length out - at) (drop at out))
@@ -112,7 +112,7 @@ module _ (l : List ℕ) (at : ℕ) (within : at < length l) (f : Field) (read : 
   unfolding copied_at
   laid =
       let p = got_passed (drop at l) f read in
-      let w = writes copy (drop at out) p.known (copy-right s f p.right passed) (omega (arith, length-field_bytes copy, length-drop at out, fits)) in
+      let w = writes copy (drop at out) p.known (copy_right s f p.right passed) (omega (arith, length-field_bytes copy, length-drop at out, fits)) in
       rw (lt-ltb at (length out) (omega arith), w)
 
   -- what is then still to be written gives the same output

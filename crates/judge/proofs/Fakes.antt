@@ -42,16 +42,16 @@ module _ (pointers selectors variables numbers status : List ℕ) (tally : Tally
   result log short e = e ∙ rw (le-leb (length log) log_bytes short, long)
 
   -- one that refuses everything, and one that makes up its counts: B has two fields, one of them a malloc, and leaves no cell live
-  pub not-refused-nor-made-up : Judges bytes_b pointers selectors variables numbers status tally v t p s x n u → v ≡ Accepted 2 1 0
+  pub not_refused_nor_made_up : Judges bytes_b pointers selectors variables numbers status tally v t p s x n u → v ≡ Accepted 2 1 0
   unfolding row_of is_tag widths_of length_of may_name field_of read_field is_valid cell_of is_unset invalidated after_free fresh write store command_of same_as_wanted check_by give free count_field
-  not-refused-nor-made-up e = ap (λ (j : Judged). j.verdict) (result bytes_b (omega arith) e)
+  not_refused_nor_made_up e = ap (λ (j : Judged). j.verdict) (result bytes_b (omega arith) e)
 
   -- one that always says accepted, and one that applies only the first field and then merely counts: C races at its last field
-  pub not-accepted-nor-counted : Judges bytes_c pointers selectors variables numbers status tally v t p s x n u → v ≡ Raced 3 1 24 22
+  pub not_accepted_nor_counted : Judges bytes_c pointers selectors variables numbers status tally v t p s x n u → v ≡ Raced 3 1 24 22
   unfolding row_of is_tag widths_of length_of may_name field_of read_field is_valid cell_of is_unset invalidated after_free fresh write store command_of same_as_wanted check_by give free count_field
-  not-accepted-nor-counted e = ap (λ (j : Judged). j.verdict) (result bytes_c (omega arith) e)
+  not_accepted_nor_counted e = ap (λ (j : Judged). j.verdict) (result bytes_c (omega arith) e)
 
   -- one that judges and leaves the heap alone: E leaves 2,054 in p16, whatever the buffer held
-  pub not-left-alone : Judges bytes_e pointers selectors variables numbers status tally v t p s x n u → get_or p 16 0 ≡ 2054
+  pub not_left_alone : Judges bytes_e pointers selectors variables numbers status tally v t p s x n u → get_or p 16 0 ≡ 2054
   unfolding row_of is_tag widths_of length_of may_name field_of read_field is_valid cell_of is_unset invalidated after_free fresh write store command_of same_as_wanted check_by give free count_field
-  not-left-alone e = ap (λ (j : Judged). get_or j.after.pointers 16 0) (result bytes_e (omega arith) e)
+  not_left_alone e = ap (λ (j : Judged). get_or j.after.pointers 16 0) (result bytes_e (omega arith) e)

@@ -49,19 +49,19 @@ accepted_output log out (run.Raced field thread variable) h = absurd h
 accepted_output log out (run.Refused r field) h = absurd h
 
 module _ (log : List ℕ) (l : Lent) (verdict : Verdict) (after : Lent) (ran : judged verdict after ≡ shown log l) where
-  as-told : verdict ≡ located log (run_bytes log_fields log fresh).verdict
+  as_told : verdict ≡ located log (run_bytes log_fields log fresh).verdict
   unfolding shown
-  as-told = ap (λ (j : Judged). j.verdict) ran
+  as_told = ap (λ (j : Judged). j.verdict) ran
 
-  ran-accepted : TellsAccepted verdict → IsAccepted (run_bytes log_fields log fresh).verdict
-  ran-accepted h = told-accepted log (run_bytes log_fields log fresh).verdict (rw as-told at h)
+  ran_accepted : TellsAccepted verdict → IsAccepted (run_bytes log_fields log fresh).verdict
+  ran_accepted h = told-accepted log (run_bytes log_fields log fresh).verdict (rw as_told at h)
 
-  replay-as : (out out' : List ℕ) → out' ≡ output_after (run_bytes log_fields log fresh).verdict log out → replayed verdict out' after ≡ written log out l
+  replay_as : (out out' : List ℕ) → out' ≡ output_after (run_bytes log_fields log fresh).verdict log out → replayed verdict out' after ≡ written log out l
   unfolding shown written
-  replay-as out out' e = rw e (ap (λ (j : Judged). replayed j.verdict (output_after (run_bytes log_fields log fresh).verdict log out) j.after) ran)
+  replay_as out out' e = rw e (ap (λ (j : Judged). replayed j.verdict (output_after (run_bytes log_fields log fresh).verdict log out) j.after) ran)
 
-  pub replay-kept : (out : List ℕ) → (TellsAccepted verdict → ⊥) → replayed verdict out after ≡ written log out l
-  replay-kept out n = replay-as out out (told_kept log out (run_bytes log_fields log fresh).verdict (λ h. n (rw (← as-told) at h)))
+  pub replay_kept : (out : List ℕ) → (TellsAccepted verdict → ⊥) → replayed verdict out after ≡ written log out l
+  replay_kept out n = replay_as out out (told_kept log out (run_bytes log_fields log fresh).verdict (λ h. n (rw (← as_told) at h)))
 
 -- ---- the second run, over what the first has left
 pub record SameSizes (l after : Lent) : Type 0 where
@@ -72,8 +72,8 @@ pub record SameSizes (l after : Lent) : Type 0 where
   pub status : length after.status ≡ length l.status
 
 module _ (l after : Lent) (fit : LongEnough l.pointers l.selectors l.variables l.numbers l.status) (sizes : SameSizes l after) where
-  pub still-enough : LongEnough after.pointers after.selectors after.variables after.numbers after.status
-  still-enough =
+  pub still_enough : LongEnough after.pointers after.selectors after.variables after.numbers after.status
+  still_enough =
       record {
         pointers_fit = rw sizes.pointers fit.pointers_fit;
         selectors_fit = rw sizes.selectors fit.selectors_fit;
@@ -84,9 +84,9 @@ module _ (l after : Lent) (fit : LongEnough l.pointers l.selectors l.variables l
 
   module _ (log : List ℕ) (verdict : Verdict) (ran : judged verdict after ≡ shown log l) where
     -- it shows what the first shows, since past the named sizes the first has left what was lent
-    same-again : shown log after ≡ shown log l
+    same_again : shown log after ≡ shown log l
     unfolding shown
-    same-again =
+    same_again =
         let end = run_bytes log_fields log fresh in
         ap (judged (located log end.verdict))
         (showing_same end.state after l
@@ -99,22 +99,22 @@ module _ (l after : Lent) (fit : LongEnough l.pointers l.selectors l.variables l
     pub replay-accepted : TellsAccepted verdict → (verdict' : Verdict) (after' : Lent) → judged verdict' after' ≡ shown log after
         → (out out' : List ℕ) → length log ≤ length out → Copies log fresh out out' → replayed verdict' out' after' ≡ written log out l
     replay-accepted told verdict' after' again out out' room copies =
-        let accepted = ran-accepted log l verdict after ran told in
-        replay-as log l verdict' after' (again ∙ same-again) out out' (copies room accepted ∙ accepted_output log out (run_bytes log_fields log fresh).verdict accepted)
+        let accepted = ran_accepted log l verdict after ran told in
+        replay_as log l verdict' after' (again ∙ same_again) out out' (copies room accepted ∙ accepted_output log out (run_bytes log_fields log fresh).verdict accepted)
 
 -- ---- the verdicts
 module _ (log out : List ℕ) (l : Lent) where
-  pub replayed-too-long : leb (length log) log_bytes ≡ false → replayed (Declined LogTooLong) out l ≡ replay_log log out l
+  pub replayed_too_long : leb (length log) log_bytes ≡ false → replayed (Declined LogTooLong) out l ≡ replay_log log out l
   unfolding replay_log
-  replayed-too-long h = rw h
+  replayed_too_long h = rw h
 
-  pub replayed-too-short : leb (length log) log_bytes ≡ true → long_enough l ≡ false → replayed (Declined BufferTooShort) out l ≡ replay_log log out l
+  pub replayed_too_short : leb (length log) log_bytes ≡ true → long_enough l ≡ false → replayed (Declined BufferTooShort) out l ≡ replay_log log out l
   unfolding replay_log
-  replayed-too-short h e = rw (h, e)
+  replayed_too_short h e = rw (h, e)
 
-  pub replayed-no-room : leb (length log) log_bytes ≡ true → long_enough l ≡ true → leb (length log) (length out) ≡ false → replayed (Declined OutputTooShort) out l ≡ replay_log log out l
+  pub replayed_no_room : leb (length log) log_bytes ≡ true → long_enough l ≡ true → leb (length log) (length out) ≡ false → replayed (Declined OutputTooShort) out l ≡ replay_log log out l
   unfolding replay_log
-  replayed-no-room h e r = rw (h, e, r)
+  replayed_no_room h e r = rw (h, e, r)
 
   pub replayed-written : leb (length log) log_bytes ≡ true → long_enough l ≡ true → leb (length log) (length out) ≡ true → written log out l ≡ replay_log log out l
   unfolding replay_log written

@@ -1,7 +1,7 @@
 -- One turn of the run, and its ends, as the loop over the log meets them.
 -- Assumes nothing.
 use Rattle.std.proofs.Common.{◌≡◌, ℕ, zero, suc, ◌+◌, ◌-◌, ◌<◌, ◌≤◌, Bool, true, false, cond, ltb, List, [], ◌∷◌, ◌++◌, length, take, drop, sym, refl, ap, ◌∙◌, not-suc-le-zero, arith, length-drop, drop_of_length-le, take_all, drop-drop, ltb-false, ltb-true, leb-true}
-use Rattle.fields.proofs.Passing.{Passes, all-passed, every_cut}
+use Rattle.fields.proofs.Passing.{Passes, all_passed, every_cut}
 use Rattle.fields.specs.declared.Field.{Field}
 use Rattle.fields.specs.declared.Refusal.{Refusal}
 use Rattle.fields.specs.declared.Refusal.TheVariants.{TooManyFields}
@@ -33,7 +33,7 @@ pub got_passed : (s : List ℕ) (f : Field) → read_field s ≡ Got f → Passe
 unfolding read_field field_of
 got_passed s f e =
     let g = field_of (tag_in s) (value_in s) in
-    let p = all-passed Refused (Got g) (framing_checks s ++ value_checks (row_of (tag_in s)) g) (Got f) (λ r q. let z : ◌≡◌ {A = ℕ} 0 1 = cc in omega arith) e in
+    let p = all_passed Refused (Got g) (framing_checks s ++ value_checks (row_of (tag_in s)) g) (Got f) (λ r q. let z : ◌≡◌ {A = ℕ} 0 1 = cc in omega arith) e in
     let q : Got g ≡ Got f = p.1 in
     let same : g ≡ f = cc in
     let tag : tag_in s ≡ f.tag = ap (λ (x : Field). x.tag) same in
@@ -75,8 +75,8 @@ run_none (suc n) s = refl
 
 -- ---- check 3, then the reading
 module _ (n : ℕ) (b : List ℕ) where
-  pub read-got : (f : Field) → read_after n b ≡ Got f → (n < log_fields) × (read_field b ≡ Got f)
-  read-got f e = by (ltb n log_fields) refl e
+  pub read_got : (f : Field) → read_after n b ≡ Got f → (n < log_fields) × (read_field b ≡ Got f)
+  read_got f e = by (ltb n log_fields) refl e
     where
       by : (t : Bool) → ltb n log_fields ≡ t → cond t (read_field b) (Refused TooManyFields) ≡ Got f → (n < log_fields) × (read_field b ≡ Got f)
       by true q e = (ltb-true n log_fields q, e)
@@ -111,33 +111,33 @@ module _ (l : List ℕ) (at : ℕ) (within : at < length l) where
     by_answer n (Race p) = refl
     by_answer n (Refuse r) = refl
 
-    pub turn-got : (n : ℕ) → followed n (next_after step.answer s.fields f at) l step.state ≡ run_from (suc n) (drop at l) s
+    pub turn_got : (n : ℕ) → followed n (next_after step.answer s.fields f at) l step.state ≡ run_from (suc n) (drop at l) s
     unfolding step_of
-    turn-got n = rw stepped (by_answer n (check (act_of f) s) ∙ sym (run_got n (drop at l) s f some_left read))
+    turn_got n = rw stepped (by_answer n (check (act_of f) s) ∙ sym (run_got n (drop at l) s f some_left read))
 
-    onward-by : (k : Answer) → Onward (next_after k s.fields f at) at (length l) s (state_after k s (effect (act_of f) s))
-    onward-by Go =
+    onward_by : (k : Answer) → Onward (next_after k s.fields f at) at (length l) s (state_after k s (effect (act_of f) s))
+    onward_by Go =
         let fits = (got_passed (drop at l) f read).fits in
         let count = counted (act_of f) s in
         ((omega arith, omega (arith, length-drop at l)), (count.fields, count.mallocs))
-    onward-by (Race p) = tt
-    onward-by (Refuse r) = tt
+    onward_by (Race p) = tt
+    onward_by (Refuse r) = tt
 
-    pub turn-onward : Onward (next_after step.answer s.fields f at) at (length l) s step.state
+    pub turn_onward : Onward (next_after step.answer s.fields f at) at (length l) s step.state
     unfolding step_of
-    turn-onward = rw stepped (onward-by (check (act_of f) s))
+    turn_onward = rw stepped (onward_by (check (act_of f) s))
 
   -- ---- the loop: what a turn gives carries on, or ends
   module _ (x : Following) (s t : State) (o : Outcome) (k m : ℕ) (turned : (n : ℕ) → followed n x l t ≡ run_from (suc n) (drop at l) s) (fuel : k ≡ suc m) (whole : run_from k (drop at l) s ≡ o) where
-    pub loop-on : (b : ℕ) → x ≡ on b → run_from m (drop b l) t ≡ o
-    loop-on b e = (rw e at (turned m)) ∙ (rw fuel at whole)
+    pub loop_on : (b : ℕ) → x ≡ on b → run_from m (drop b l) t ≡ o
+    loop_on b e = (rw e at (turned m)) ∙ (rw fuel at whole)
 
     pub loop_ended : (v : Ending) → x ≡ ended v → ◌≡◌ {A = Outcome} (record { verdict = v; state = t }) o
     loop_ended v e = (rw e at (turned m)) ∙ (rw fuel at whole)
 
-  pub loop-stopped : (s : State) (o : Outcome) (k : ℕ) (r : Refusal) → k ≡ log_fields - s.fields → run_from k (drop at l) s ≡ o → read_after s.fields (drop at l) ≡ Refused r
+  pub loop_stopped : (s : State) (o : Outcome) (k : ℕ) (r : Refusal) → k ≡ log_fields - s.fields → run_from k (drop at l) s ≡ o → read_after s.fields (drop at l) ≡ Refused r
       → ◌≡◌ {A = Outcome} (record { verdict = RefusedAt r s.fields; state = s }) o
-  loop-stopped s o k r fuel whole e = sym (run-stops s.fields (drop at l) k s r some_left fuel e) ∙ whole
+  loop_stopped s o k r fuel whole e = sym (run-stops s.fields (drop at l) k s r some_left fuel e) ∙ whole
 
 pub loop_end : (l : List ℕ) (at : ℕ) (s : State) (o : Outcome) (n c : ℕ) → length l ≤ at → run_from n (drop at l) s ≡ o → c ≡ live_count s.status → ◌≡◌ {A = Outcome} (record { verdict = Accepted s.fields s.mallocs c; state = s }) o
 loop_end l at s o n c past whole count = rw count (sym (run_none n s) ∙ (rw (drop_of_length-le l {i = at} past) at whole))

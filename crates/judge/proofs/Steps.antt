@@ -22,9 +22,9 @@ after_going (Refuse r) before after = refl
 
 module _ (guard : Guard) (change : Change) (s : State) where
   -- 11 stops it
-  pub play-full : (r : Refusal) → room_in s.mallocs (gives change) ≡ Refuse r → ◌≡◌ {A = Step} (record { answer = Refuse r; state = s }) (step_of (record { guard = guard; change = change }) s)
+  pub play_full : (r : Refusal) → room_in s.mallocs (gives change) ≡ Refuse r → ◌≡◌ {A = Step} (record { answer = Refuse r; state = s }) (step_of (record { guard = guard; change = change }) s)
   unfolding step_of
-  play-full r full = rw (← (check_kinds guard change s), full)
+  play_full r full = rw (← (check_kinds guard change s), full)
 
   module _ (own answer : Answer) (room : room_in s.mallocs (gives change) ≡ Go) (owned : own ≡ check_change change s)
       (checked : answer ≡ guarded_in s.pointers s.variables guard own) (goes : Bool) (told : goes ≡ goes_on answer) where
@@ -32,14 +32,14 @@ module _ (guard : Guard) (change : Change) (s : State) where
     answers = rw (← (check_kinds guard change s), room, ← owned) checked
 
     -- every check passes, and the state with the change made has its field counted
-    pub play-on : (t : State) → goes ≡ true → t ≡ apply change s
+    pub play_on : (t : State) → goes ≡ true → t ≡ apply change s
         → ◌≡◌ {A = Step} (record { answer = answer; state = with_tally (t.fields + 1) t.mallocs t }) (step_of (record { guard = guard; change = change }) s)
     unfolding step_of count_field
-    play-on t on e = rw (← answers, after_going answer, ← told, on, e)
+    play_on t on e = rw (← answers, after_going answer, ← told, on, e)
 
-    pub play-stop : goes ≡ false → ◌≡◌ {A = Step} (record { answer = answer; state = s }) (step_of (record { guard = guard; change = change }) s)
+    pub play_stop : goes ≡ false → ◌≡◌ {A = Step} (record { answer = answer; state = s }) (step_of (record { guard = guard; change = change }) s)
     unfolding step_of
-    play-stop off = rw (← answers, after_going answer, ← told, off)
+    play_stop off = rw (← answers, after_going answer, ← told, off)
 
 -- the change being known by its kind
 pub play_kind : (a : Act) (change : Change) (s : State) (x : Step) → a.change ≡ change → x ≡ step_of (record { guard = a.guard; change = change }) s → x ≡ step_of a s

@@ -77,6 +77,7 @@ fn as_wanted(wanted: bool, found: bool) -> bool
 }
 
 // Unset is nil: two that are unset are the same, and one that is unset is no cell.
+#[tactic(auto, unfolding(rules::specs::Check::same_as_wanted))]
 fn same_as_wanted(wanted: bool, v: u16, w: u16) -> bool
     ensures { result ≡ same_as_wanted wanted v w }
 {

@@ -1,5 +1,7 @@
 // Judging a log of pointer commands over what the caller lends, and writing its replay.
 // One field's step, its checks and its effects stand in private modules: judging one field against a heap of the caller's making is not offered.
+#![tactic(auto)]
+
 mod acts;
 mod checks;
 mod copies;
@@ -17,7 +19,7 @@ pub use replay::replay_log;
 use rules::{Tally, Verdict};
 
 // What is said of a log, and the tally afterwards.
-#[derive(Drop)]
+#[derive(Clone, Copy)]
 pub struct Judged {
     pub verdict: Verdict,
     pub tally: Tally,

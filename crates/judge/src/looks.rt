@@ -6,7 +6,7 @@ ghost use Rattle.rules.specs.Acts.{data_through, pointer_through, value_through}
 use rules::{DExp, PExp, Value};
 
 // A pointer variable, where there is one to look at.
-#[derive(Drop)]
+#[derive(Clone, Copy)]
 pub enum Look {
     Nowhere,
     At(u8),

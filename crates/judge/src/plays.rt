@@ -13,7 +13,7 @@ use fields::{Log, RecordedCell, Refusal};
 use rules::{Act, Answer, Change, Guard, PExp, Tally};
 
 // What is said of a command, and the tally after it.
-#[derive(Drop)]
+#[derive(Clone, Copy)]
 pub struct Played {
     pub answer: Answer,
     pub tally: Tally,
