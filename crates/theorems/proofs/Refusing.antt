@@ -25,7 +25,7 @@ use Rattle.fields.specs.Write.{Writing, field_bytes, write_field, writing, writi
 use Rattle.rules.specs.declared.Shown.{Shown}
 use Rattle.rules.specs.declared.Shown.TheVariants as shown
 use Rattle.rules.specs.Log.{offset_of}
-use Rattle.rules.specs.Showing.{fields_read, shown_in, size_in}
+use Rattle.rules.specs.Showing.{fields_read, part_in, shown_in, size_in}
 use Rattle.theorems.specs.Answers.{numbered, read_line, shown_line, written_line}
 
 -- what tests in order come to: what is said where all pass, or what one of them says
@@ -135,3 +135,7 @@ show_refused log n r field e = by (leb (length log) log_bytes) (ltb n (length (f
     by true true q = absurd (let z : ◌≡◌ {A = ℕ} 0 1 = cc in omega arith)
     by true false q = let which : r ≡ FieldNotReached = cc in let where_ : field ≡ 0 = cc in (inr (ap number_of which), rw where_ refl)
     by false reached q = let which : r ≡ LogTooLong = cc in let where_ : field ≡ 0 = cc in (inl (ap number_of which), rw where_ refl)
+
+-- and the part is empty
+pub refused_empty : (log : List ℕ) (n : ℕ) (r : Refusal) (field : ℕ) → shown.Refused r field ≡ shown_in log n → part_in log n ≡ []
+refused_empty log n r field e = rw (← e) refl
