@@ -1,11 +1,15 @@
 // Judges logs over lent buffers of edge lengths, and prints the verdict and how many places of each buffer were changed.
 // Every place holds beforehand a value that no judged log leaves there, so that a place which was written is seen.
+#![tactic(auto)]
+
 ghost use Rattle.std.specs.Prelude.{◌≡◌, ◌+◌, ◌≤◌, length};
 
-use console::{ROOM, end_line, put, put_number, put_verdict};
+use console::{
+    Ends, ROOM, Target, end_line, put, put_number, put_verdict, tell_failed, tell_whole,
+};
 use fields::Log;
-use libc::STDOUT_FILENO;
 use rules::{Board, Heap, Tally, Verdict};
+use std::process::ExitCode;
 
 // Places that each buffer has past its size.
 const SPARE: usize = 8;
@@ -58,9 +62,9 @@ fn changed_status(status: &[u8]) -> usize {
     changed
 }
 
-fn put_count(text: &mut [u8; ROOM], start: usize, count: usize) -> usize {
-    let at = put(text, start, b' ');
-    put_number(text, at, count as u64)
+fn put_count(ends: Ends, text: &mut [u8; ROOM], start: usize, count: usize) -> usize {
+    let at = put(ends, text, start, b' ');
+    put_number(ends, text, at, count as u64)
 }
 
 // How much of a buffer is lent: one place less than its size where it is the short one, else its size and what is asked beyond.
@@ -74,26 +78,28 @@ fn lent(size: usize, buffer: u8, short: u8, beyond: usize) -> usize
     size + beyond
 }
 
-// The verdict, then how many places were changed of pointers, selectors, variables, numbers and status.
+// The verdict, then how many places were changed of pointers, selectors, variables, numbers and status. Whether it was written.
 fn write_line(
+    ends: Ends,
     verdict: Verdict,
     pointers: &[u16],
     selectors: &[u16],
     variables: &[u32],
     numbers: &[u32],
     status: &[u8],
-) {
+) -> bool {
     let mut text = [0u8; ROOM];
-    let mut at = put_verdict(&mut text, 0, verdict);
-    at = put_count(&mut text, at, changed_words(pointers));
-    at = put_count(&mut text, at, changed_words(selectors));
-    at = put_count(&mut text, at, changed_numbers(variables));
-    at = put_count(&mut text, at, changed_numbers(numbers));
-    at = put_count(&mut text, at, changed_status(status));
-    end_line(STDOUT_FILENO, &mut text, at);
+    let mut at = put_verdict(ends, &mut text, 0, verdict);
+    at = put_count(ends, &mut text, at, changed_words(pointers));
+    at = put_count(ends, &mut text, at, changed_words(selectors));
+    at = put_count(ends, &mut text, at, changed_numbers(variables));
+    at = put_count(ends, &mut text, at, changed_numbers(numbers));
+    at = put_count(ends, &mut text, at, changed_status(status));
+    end_line(ends, Target::Output, &mut text, at)
 }
 
 fn show(
+    ends: Ends,
     log: &[u8],
     short: u8,
     beyond: usize,
@@ -102,7 +108,7 @@ fn show(
     variables: &mut [u32],
     numbers: &mut [u32],
     status: &mut [u8],
-)
+) -> bool
     requires beyond_bound { beyond ≤ 8 }
     requires pointers_len { (length pointers.old ≡ 88) × ((length selectors.old ≡ 2056) × ((length variables.old ≡ 88) × ((length numbers.old ≡ 1032) × (length status.old ≡ 1032)))) }
 {
@@ -121,10 +127,12 @@ fn show(
         Tally::fresh(),
     );
     let verdict = judged.verdict;
-    write_line(verdict, pointers, selectors, variables, numbers, status);
+    write_line(
+        ends, verdict, pointers, selectors, variables, numbers, status,
+    )
 }
 
-fn judge_poisoned(log: &[u8], short: u8, beyond: usize)
+fn judge_poisoned(ends: Ends, log: &[u8], short: u8, beyond: usize) -> bool
     requires { beyond ≤ 8 }
 {
     let mut pointers = [WORD; Board::POINTERS + SPARE];
@@ -133,6 +141,7 @@ fn judge_poisoned(log: &[u8], short: u8, beyond: usize)
     let mut numbers = [NUMBER; Heap::CELLS + SPARE];
     let mut status = [STATUS; Heap::CELLS + SPARE];
     show(
+        ends,
         log,
         short,
         beyond,
@@ -141,15 +150,24 @@ fn judge_poisoned(log: &[u8], short: u8, beyond: usize)
         &mut variables,
         &mut numbers,
         &mut status,
-    );
+    )
 }
 
-fn main() {
+fn main(rt: HostRuntime) -> ExitCode {
+    let ends = Ends {
+        input: rt.stdin(),
+        output: rt.stdout(),
+        error: rt.stderr(),
+    };
     let case = CASE_E;
     let long = [0u8; Log::ROOM];
     for short in 0..6u8 {
-        judge_poisoned(&case, short, 0);
-        judge_poisoned(&case, short, SPARE);
-        judge_poisoned(&long, short, 0);
+        let judged = judge_poisoned(ends, &case, short, 0)
+            && judge_poisoned(ends, &case, short, SPARE)
+            && judge_poisoned(ends, &long, short, 0);
+        if !judged {
+            return tell_failed();
+        }
     }
+    tell_whole()
 }
