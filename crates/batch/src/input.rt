@@ -2,8 +2,8 @@
 ghost use Rattle.std.specs.Prelude.{◌≤◌, min, length, ◌≡◌};
 
 use fields::Log;
-use libc::STDIN_FILENO;
-use streams::{Stop, is_full, read_into};
+use std::io::{Error, Stdin};
+use streams::{Filled, Stop, is_full, read_into};
 
 // How many bytes at a time are dropped.
 const CHUNK: usize = 4_096;
@@ -17,11 +17,12 @@ pub enum Next {
     Broken,
 }
 
-// What was read, and of a whole record how many of the log's bytes are in the buffer.
+// What was read, and of a whole record how many of the log's bytes are in the buffer; of what could not be read, why.
 #[derive(Drop)]
 pub struct Record {
     pub next: Next,
     pub length: usize,
+    pub error: Option<Error>,
 }
 
 fn least(a: usize, b: usize) -> usize
@@ -43,26 +44,29 @@ fn four_bytes(low: usize, high: usize) -> usize
 }
 
 // Reads so many bytes.
-fn fill(bytes: &mut [u8], count: usize) -> Stop
+fn fill(mut input: Stdin, bytes: &mut [u8], count: usize) -> Filled
     requires { count ≤ length bytes.old }
 {
-    let read = read_into(STDIN_FILENO, &mut bytes[..count]);
-    read.stop
+    read_into(&mut input, &mut bytes[..count])
 }
 
 // Reads so many bytes and drops them.
-fn skip(count: usize) -> Stop {
+fn skip(input: Stdin, count: usize) -> Filled {
     let mut chunk = [0u8; CHUNK];
     let mut left = count;
     while 0 < left {
         let part = least(left, CHUNK);
-        let stop = fill(&mut chunk, part);
-        if !is_full(stop) {
-            return stop;
+        let read = fill(input, &mut chunk, part);
+        if !is_full(read.stop) {
+            return read;
         }
         left -= part;
     }
-    Stop::Full
+    Filled {
+        length: count,
+        stop: Stop::Full,
+        error: None,
+    }
 }
 
 // What a record is whose head was read, by how reading the rest of it stopped.
@@ -75,22 +79,24 @@ fn next_of(stop: Stop) -> Next {
 }
 
 // A log of so many bytes. Of one that is too long the first byte too many is kept, and the rest is dropped.
-fn read_log(bytes: &mut [u8], size: usize) -> Record
+fn read_log(input: Stdin, bytes: &mut [u8], size: usize) -> Record
     requires { length bytes.old ≡ 45057 }
     ensures { result.length ≤ 45057 }
 {
     let length = least(size, Log::ROOM);
-    let kept = fill(bytes, length);
-    if !is_full(kept) {
+    let kept = fill(input, bytes, length);
+    if !is_full(kept.stop) {
         return Record {
-            next: next_of(kept),
+            next: next_of(kept.stop),
             length: 0,
+            error: kept.error,
         };
     }
-    let dropped = skip(size - length);
+    let dropped = skip(input, size - length);
     Record {
-        next: next_of(dropped),
+        next: next_of(dropped.stop),
         length,
+        error: dropped.error,
     }
 }
 
@@ -108,20 +114,22 @@ fn next_after(stop: Stop, count: usize) -> Next {
     }
 }
 
-pub fn read_record(bytes: &mut [u8]) -> Record
+pub fn read_record(mut input: Stdin, bytes: &mut [u8]) -> Record
     requires { length bytes.old ≡ 45057 }
     ensures { result.length ≤ 45057 }
 {
     let mut head = [0u8; 4];
-    let read = read_into(STDIN_FILENO, &mut head);
+    let read = read_into(&mut input, &mut head);
     let stop = read.stop;
     if !is_full(stop) {
         return Record {
             next: next_after(stop, read.length),
             length: 0,
+            error: read.error,
         };
     }
     read_log(
+        input,
         bytes,
         four_bytes(two_bytes(head[0], head[1]), two_bytes(head[2], head[3])),
     )

@@ -167,17 +167,17 @@ fn places_spilled(
 }
 
 // Whether anything was written of the heap and the tally that was to stay.
-pub fn heap_spilled(left: Left) -> bool {
+pub fn heap_spilled(left: &Left) -> bool {
     let verdict = left.verdict;
     let tally = left.tally;
-    let pointers = left.pointers;
-    let selectors = left.selectors;
-    let variables = left.variables;
-    let numbers = left.numbers;
-    let status = left.status;
     let written = !is_untouched(verdict);
     if places_spilled(
-        written, &pointers, &selectors, &variables, &numbers, &status,
+        written,
+        &left.pointers,
+        &left.selectors,
+        &left.variables,
+        &left.numbers,
+        &left.status,
     ) {
         return true;
     }
