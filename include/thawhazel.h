@@ -27,6 +27,7 @@ enum {
     THAWHAZEL_ANSWER = 4,       /* the verdict's numbers */
     THAWHAZEL_FIELD = 7,        /* tag, thread, first, second, third, cell, number */
     THAWHAZEL_READ = 8,         /* these, and the byte offset of what was read */
+    THAWHAZEL_PART = 2,         /* where a field's bytes begin in a log, and how many they are */
     THAWHAZEL_LOG = 45056,      /* the most bytes that a log may have */
     THAWHAZEL_FIELD_BYTES = 11  /* the most bytes that one field takes */
 };
@@ -61,7 +62,8 @@ enum {
     THAWHAZEL_UNSET_POINTER = 12,    /* a valid but unset pointer is gone through */
     THAWHAZEL_LIVE_CELL = 13,        /* malloc of a live cell */
     THAWHAZEL_ASSERTION_FAILS = 14,  /* an assertion does not hold */
-    THAWHAZEL_OUTPUT_TOO_SHORT = 15  /* what is to be written has no room: nothing else was changed */
+    THAWHAZEL_OUTPUT_TOO_SHORT = 15, /* what is to be written has no room: nothing else was changed */
+    THAWHAZEL_FIELD_NOT_REACHED = 16 /* a field to be shown: 3 to 11 stop, or the log ends, before it is read */
 };
 
 /* Judges a log from the fresh state, whatever the buffers hold: nothing needs to be set beforehand. Returns one of the four kinds
@@ -104,6 +106,63 @@ uint32_t thawhazel_read_field(const uint8_t *part, size_t part_length, uint32_t 
  * looked at. */
 uint32_t thawhazel_write_field(const uint32_t *field, size_t field_length, uint8_t *out, size_t out_length, uint32_t *answer,
                                size_t answer_length);
+
+/* Finds the bytes of field `number`, from 0, of a log, which may be a recording or a replay. Returns 0, and the byte at which they begin
+ * in part[0] and how many they are in part[1]: the field's own bytes, header and value, are log[part[0]] and those after it. It reads
+ * by the reading checks alone, so that a field which races is found. Else returns the number of a refusal, 1 or 16, and changes
+ * nothing. A `part` with fewer than 2 places gets 15, before anything else is looked at. */
+uint32_t thawhazel_show(const uint8_t *log, size_t log_length, uint32_t number, uint32_t *part, size_t part_length);
+
+/* ---- judging and replaying over one struct: such a caller names no buffer, and a buffer that a later version adds asks only for
+ * compiling again */
+
+/* Every buffer that is lent to the judge beside the answer, each of just its size. */
+typedef struct thawhazel_room {
+    uint16_t pointers[THAWHAZEL_POINTERS];
+    uint16_t selectors[THAWHAZEL_SELECTORS];
+    uint32_t variables[THAWHAZEL_VARIABLES];
+    uint32_t numbers[THAWHAZEL_CELLS];
+    uint8_t status[THAWHAZEL_CELLS];
+    uint32_t tally[THAWHAZEL_TALLY];
+} thawhazel_room;
+
+/* What is lent: where each buffer stands and how many elements it has. */
+typedef struct thawhazel_heap {
+    uint16_t *pointers;
+    size_t pointers_length;
+    uint16_t *selectors;
+    size_t selectors_length;
+    uint32_t *variables;
+    size_t variables_length;
+    uint32_t *numbers;
+    size_t numbers_length;
+    uint8_t *status;
+    size_t status_length;
+    uint32_t *tally;
+    size_t tally_length;
+} thawhazel_heap;
+
+/* A heap over a room:  static thawhazel_room room;  thawhazel_heap heap = THAWHAZEL_HEAP_INIT(room); */
+#define THAWHAZEL_HEAP_INIT(room)                                                                                              \
+    {                                                                                                                          \
+        (room).pointers, THAWHAZEL_POINTERS, (room).selectors, THAWHAZEL_SELECTORS, (room).variables, THAWHAZEL_VARIABLES,     \
+            (room).numbers, THAWHAZEL_CELLS, (room).status, THAWHAZEL_CELLS, (room).tally, THAWHAZEL_TALLY                     \
+    }
+
+/* thawhazel_judge, with THAWHAZEL_ANSWER places at `answer`. */
+static inline uint32_t thawhazel_judge_heap(const uint8_t *log, size_t log_length, const thawhazel_heap *heap, uint32_t *answer) {
+    return thawhazel_judge(log, log_length, heap->pointers, heap->pointers_length, heap->selectors, heap->selectors_length,
+                           heap->variables, heap->variables_length, heap->numbers, heap->numbers_length, heap->status,
+                           heap->status_length, heap->tally, heap->tally_length, answer, THAWHAZEL_ANSWER);
+}
+
+/* thawhazel_replay, with THAWHAZEL_ANSWER places at `answer`. */
+static inline uint32_t thawhazel_replay_heap(const uint8_t *log, size_t log_length, uint8_t *out, size_t out_length,
+                                             const thawhazel_heap *heap, uint32_t *answer) {
+    return thawhazel_replay(log, log_length, out, out_length, heap->pointers, heap->pointers_length, heap->selectors,
+                            heap->selectors_length, heap->variables, heap->variables_length, heap->numbers, heap->numbers_length,
+                            heap->status, heap->status_length, heap->tally, heap->tally_length, answer, THAWHAZEL_ANSWER);
+}
 
 #ifdef __cplusplus
 }

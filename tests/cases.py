@@ -156,12 +156,20 @@ def judged(log):
     return printed(log)
 
 
+# a log with every tag, so that every row is judged and replayed
+EVERY_TAG = (
+    malloc(0, 5, 7) + constant(0, 4294967295) + copy(1, 0) + field(5, 0, 0, 1, 1) + field(4, 0, 2, 0, 1) + field(6, 0, 1, 2)
+    + field(7, 0, 0, 1) + field(13, 0, 2, 0, 1) + equal(0, 1) + differ(0, 3) + field(11, 0, 1, 1) + field(12, 0, 0, 1)
+    + cas_done(1, 0, 2) + cas_failed(1, 3, 2) + free(0)
+)
+
 # the replays that the cases tell of: the k-th malloc names cell k; L's second starts with 7, which its cell held
 REPLAYS = {
     "B": malloc(0, 0, 7) + free(0),
     "E": malloc(0, 0, 0) + malloc(1, 1, 0) + field(5, 0, 0, 0, 1) + free(0) + malloc(0, 2, 0) + field(4, 0, 16, 0, 0),
     "L": malloc(0, 0, 7) + free(0) + malloc(0, 1, 7) + field(6, 0, 0, 0),
     "R": malloc(0, 0, 0),
+    "every tag": malloc(0, 0, 7) + EVERY_TAG[11:],
     "cas-done": malloc(0, 0, 0) + malloc(1, 1, 0) + copy(2, 0) + cas_done(0, 2, 1),
     "cas-done-copies-invalid": malloc(0, 0, 0) + copy(1, 0) + free(0) + malloc(0, 1, 0) + cas_done(0, 0, 1),
     "cas-failed": malloc(0, 0, 0) + malloc(1, 1, 0) + cas_failed(0, 1, 1),
@@ -233,12 +241,12 @@ def main():
         line = judged(log)
         if line != verdict + "\n":
             sys.exit(f"a log of {len(log)} bytes, {log[:40].hex()}..: {line!r}, and not {verdict!r}")
-    for name, log, verdict in CASES:
+    for name, log, verdict in CASES + [("every tag", EVERY_TAG, "accepted 15 1 0")]:
         check_replay(name, log, verdict)
     named = {name: log for name, log, _ in CASES}
     for name, words, wanted in SHOWN:
         check_shown(named[name], words, wanted)
-    print(f"{len(logs)} logs judged, {len(CASES)} replayed and {len(SHOWN)} fields shown as the documents say")
+    print(f"{len(logs)} logs judged, {len(CASES) + 1} replayed and {len(SHOWN)} fields shown as the documents say")
 
 
 main()

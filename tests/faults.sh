@@ -11,8 +11,7 @@ root=$PWD
 made=$root/target/faults
 rm -rf "$made"
 mkdir -p "$made"
-kit=$(dirname "$(dirname "$(rt doc)")")
-tools=$kit/on/$(uname -m)/toolchain
+tools=$(dirname "$(rt doc)")/toolchain
 bad=0
 tried=0
 
@@ -64,17 +63,15 @@ tried=$((tried + 1))
 
 # A kit of which only the loader is another: it preloads the shim. So the launcher is the one that is used, and its own commands
 # are left alone.
-emulator=$tools/bin/qemu-x86_64
-[ -x "$emulator" ] || emulator=
-loader=$made/kit/on/$(uname -m)/toolchain/lib/ld-linux-x86-64.so.2
+loader=$made/kit/toolchain/lib/ld-linux-x86-64.so.2
 mkdir -p "$(dirname "$loader")" "$made/bin"
 cat >"$loader" <<END
 #!/bin/sh
-exec $emulator "$tools/lib/ld-linux-x86-64.so.2" --preload "$made/shim.so" --library-path "$tools/lib" "\$3" "\$4" "\$5"
+exec "$tools/lib/ld-linux-x86-64.so.2" --preload "$made/shim.so" --library-path "$tools/lib" "\$3" "\$4" "\$5"
 END
 cat >"$made/bin/rt" <<END
 #!/bin/sh
-echo "$made/kit/docs/START-HERE.md"
+echo "$made/kit/START-HERE.md"
 END
 chmod +x "$loader" "$made/bin/rt"
 

@@ -2,4 +2,5 @@
 -- Assumes nothing.
 pub mod Calls
 pub mod OneField
+pub mod OneShowing
 pub mod OneResult

@@ -7,6 +7,7 @@ use Rattle.fields.proofs.OneResult.{one_answer}
 use Rattle.capi.specs.Fields.{ReadLeft, WriteLeft, read_call, write_call}
 use Rattle.capi.specs.Judging.{Left, judge_call}
 use Rattle.capi.specs.Replaying.{ReplayLeft, replay_call}
+use Rattle.capi.specs.Showing.{ShowLeft, show_call}
 
 pub one_judgement : (log pointers selectors variables numbers status tally answer : List ℕ) (x y : Left)
     → x ≡ judge_call log pointers selectors variables numbers status tally answer
@@ -25,3 +26,6 @@ one_reading part place field = one_answer (read_call part place field)
 
 pub one_writing : (field out answer : List ℕ) (x y : WriteLeft) → x ≡ write_call field out answer → y ≡ write_call field out answer → x ≡ y
 one_writing field out answer = one_answer (write_call field out answer)
+
+pub one_showing : (log : List ℕ) (number : ℕ) (part : List ℕ) (x y : ShowLeft) → x ≡ show_call log number part → y ≡ show_call log number part → x ≡ y
+one_showing log number part = one_answer (show_call log number part)

@@ -4,3 +4,4 @@ pub mod Fronts
 pub mod Judging
 pub mod Replaying
 pub mod Fields
+pub mod Showing

@@ -25,3 +25,16 @@ pub mod PaperAllowed
 pub mod PaperDemands
 pub mod Cas
 pub mod Shown
+pub mod Counts
+pub mod Renewed
+pub mod Renewals
+pub mod CopiedLog
+pub mod PaperHeaps
+pub mod Reused
+pub mod Stopped
+pub mod Sizes
+pub mod CaseBytes
+pub mod Fetching
+pub mod Refusing
+pub mod Results
+pub mod FakeReplays

@@ -1,10 +1,10 @@
 -- Source 004 beside the rules: a race is Definition 2's, of the expressions that are valid by Definition 1.
 -- The paper speaks of computations, so of commands that can be executed; document 01 looks for a race before 12 and 14. Assumes nothing.
 use Prim.Native.Nat.{ℕ}
-use mathlib.Core.Path.{◌∙◌, ◌≡◌, ap, refl, sym}
+use mathlib.Core.Path.{◌∙◌, ◌≡◌, ap, ap₂, refl, sym}
 use mathlib.Core.Bool.{Bool, false}
 use mathlib.Core.Logic.{◌⊎◌, inl, inr}
-use mathlib.Core.List.{List, [], ◌++◌, ◌∷◌}
+use mathlib.Core.List.{List, [], ◌++◌, ◌∷◌, append-nil}
 use native.Mathlib.Omega.{arith}
 use Rattle.fields.specs.declared.Refusal.{Refusal}
 use Rattle.fields.specs.declared.Refusal.TheVariants.{AssertionFails, LiveCell, TooManyMallocs, UnsetPointer}
@@ -20,8 +20,8 @@ use Rattle.rules.specs.State.{State}
 use Rattle.rules.specs.Acts.{compared, frees, gives, through, touched}
 use Rattle.rules.specs.Check.{check, check_by, each, points, room_for, vacant, valid}
 use Rattle.rules.proofs.Checks.{guard_tests, room_tests, set_tests, vacancy_tests}
-use Rattle.theorems.specs.Paper.{Assert, Com, Computation, Cond, ContainsInvalid, NotValid, PExp, PointerRace, pointer_var, valid_in}
-use Rattle.theorems.specs.Beside.{Asserts, RaceIn, Says, Shows, Takes, assertion, both, change, says_apart, says_constant, says_copy, says_equal, says_free, says_load, says_malloc, says_read, says_same, says_store, says_sum, says_unequal, says_write}
+use Rattle.theorems.specs.Paper.{Assert, Com, Computation, Cond, ContainsInvalid, NotValid, PExp, PointerRace, SomeNotValid, contained, pointer_var, pointers_of, same_data, same_pointers, negated, Compute, Copy, Free, Load, Malloc, ReadData, Store, WriteData, valid_in}
+use Rattle.theorems.specs.Beside.{Asserts, FirstNotValid, RaceIn, Says, Shows, Takes, assertion, both, change, contained_in, says_apart, says_constant, says_copy, says_equal, says_free, says_load, says_malloc, says_read, says_same, says_store, says_sum, says_unequal, says_write, valid_of}
 use Rattle.theorems.proofs.Basics.{split}
 
 -- some variable of a list is not valid
@@ -217,3 +217,85 @@ module _ (τ : Computation) (s : State) (H : Shows s τ) (a : Act) (cs : List Co
       let differ : Race v.0 ≡ Go = sym v.1 ∙ here in
       let z : ◌≡◌ {A = ℕ} 0 1 = cc in
       omega arith
+
+-- ---- Definition 2 by the pointers that a command contains: it races exactly where one of them is not valid
+module _ (legal : PExp → Bool) where
+  cond_some : (c : Cond) → ContainsInvalid legal c → SomeNotValid legal (pointers_of c)
+  cond_some (same_pointers p q) (inl n) = inl n
+  cond_some (same_pointers p q) (inr n) = inr (inl n)
+  cond_some (same_data x y) r = r
+  cond_some (negated c) r = cond_some c r
+
+  some_cond : (c : Cond) → SomeNotValid legal (pointers_of c) → ContainsInvalid legal c
+  some_cond (same_pointers p q) (inl n) = inl n
+  some_cond (same_pointers p q) (inr (inl n)) = inr n
+  some_cond (same_pointers p q) (inr (inr n)) = absurd n
+  some_cond (same_data x y) r = r
+  some_cond (negated c) r = some_cond c r
+
+  alone : (p : ℕ) → SomeNotValid legal (p ∷ []) → NotValid legal p
+  alone p (inl n) = n
+  alone p (inr n) = absurd n
+
+  pub race_contains : (c : Com) → PointerRace legal c → SomeNotValid legal (contained c)
+  race_contains (Assert c) r = cond_some c r
+  race_contains (Malloc p) r = r
+  race_contains (Free p) r = inl r
+  race_contains (Load p q i) r = inl r
+  race_contains (Store p i q) r = inl r
+  race_contains (Copy p q) r = r
+  race_contains (ReadData x p) r = inl r
+  race_contains (WriteData p x) r = inl r
+  race_contains (Compute x op xs) r = r
+
+  pub contains_race : (c : Com) → SomeNotValid legal (contained c) → PointerRace legal c
+  contains_race (Assert c) r = some_cond c r
+  contains_race (Malloc p) r = r
+  contains_race (Free p) r = alone p r
+  contains_race (Load p q i) r = alone q r
+  contains_race (Store p i q) r = alone p r
+  contains_race (Copy p q) r = r
+  contains_race (ReadData x p) r = alone p r
+  contains_race (WriteData p x) r = alone p r
+  contains_race (Compute x op xs) r = r
+
+-- ---- a race names the first variable that is not valid
+race_first : (s : State) (l : List ℕ) (done : Answer) (v : ℕ) → (done ≡ Race v → ⊥) → in_order (λ answer. answer) done (each (valid s) Race l) ≡ Race v → FirstNotValid (valid_of s) l v
+race_first s [] done v n e = absurd (n e)
+race_first s (p ∷ l) done v n e = split (valid s p)
+    (λ t. inr (t, race_first s l done v n (rw t at e)))
+    (λ t. let said : Race p ≡ Race v = rw t at e in inl (t, cc))
+
+race_names : (a : Act) (s : State) (v : ℕ) → check a s ≡ Race v → FirstNotValid (valid_of s) (touched a) v
+race_names a s v e = let q = by_races a s v e in race_first s (touched a) (in_order (λ answer. answer) Go (others a s)) v q.0 q.1
+
+-- what the checks look at is what the commands contain, in their order
+guard_contained : (g : Guard) (k : Cond) → Asserts g k → compared g ≡ pointers_of k
+guard_contained g k (says_same {p} {q}) = refl
+guard_contained g k (says_apart {p} {q}) = refl
+guard_contained g k (says_equal {x} {y}) = refl
+guard_contained g k (says_unequal {x} {y}) = refl
+
+change_contained : (m : Change) (c : Com) → Says m c → frees m ++ through m ≡ contained c
+change_contained m c (says_malloc {p}) = refl
+change_contained m c (says_free {p}) = refl
+change_contained m c (says_copy {p} {q}) = refl
+change_contained m c (says_load {p} {q} n) = refl
+change_contained m c (says_store {p} {q} n) = refl
+change_contained m c (says_read {x} {p}) = refl
+change_contained m c (says_write {p} {x}) = refl
+change_contained m c (says_constant {x} {n}) = refl
+change_contained m c (says_sum {x} {y} {z}) = refl
+
+touched_contained : (a : Act) (cs : List Com) → Takes a cs → touched a ≡ contained_in cs
+touched_contained a cs (change {m} {c} w) = change_contained m c w ∙ sym (append-nil (contained c))
+touched_contained a cs (assertion {g} {k} w) = ap (λ (l : List ℕ). l ++ []) (guard_contained g k w)
+touched_contained a cs (both {g} {k} {m} {c} w u n) = ap₂ (λ (l r : List ℕ). l ++ r) (guard_contained g k w) (change_contained m c u ∙ sym (append-nil (contained c)))
+
+module _ (τ : Computation) (s : State) (H : Shows s τ) (a : Act) (cs : List Com) (takes : Takes a cs) where
+  same_valid : valid_of s ≡ valid_in τ
+  same_valid = λ i e. sym (H.marks e) i
+
+  -- of the pointers that the commands contain, it names the first that is not valid
+  pub race_names_first : (v : ℕ) → check a s ≡ Race v → FirstNotValid (valid_in τ) (contained_in cs) v
+  race_names_first v e = rw (same_valid, touched_contained a cs takes) at (race_names a s v e)

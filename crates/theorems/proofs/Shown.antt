@@ -207,7 +207,7 @@ mallocs_after (Release p) s = either (λ (t : State). t.mallocs ≡ s.mallocs + 
 mallocs_after (Move x y) s = omega arith
 mallocs_after (Put x v) s = omega arith
 
-effect_mallocs : (a : Act) (s : State) → (effect a s).mallocs ≡ s.mallocs + length (gives a.change)
+pub effect_mallocs : (a : Act) (s : State) → (effect a s).mallocs ≡ s.mallocs + length (gives a.change)
 unfolding count_field
 effect_mallocs a s = mallocs_after a.change s
 
@@ -250,11 +250,11 @@ all_roomy (f ∷ fs) s n k l h e =
     let later : roomy (effect a s).mallocs fs ≡ fs = all_roomy fs (effect a s) n k l (omega (arith, count, room)) (rw here at e) in
     rw (le-leb (s.mallocs + mallocs_of f) log_mallocs room) (ap (λ (r : List Field). f ∷ r) (rw count at later))
 
-fresh_fields : fresh.fields ≡ 0
+pub fresh_fields : fresh.fields ≡ 0
 unfolding fresh
 fresh_fields = refl
 
-fresh_mallocs : fresh.mallocs ≡ 0
+pub fresh_mallocs : fresh.mallocs ≡ 0
 unfolding fresh
 fresh_mallocs = refl
 
@@ -289,7 +289,7 @@ shown_starts log n at size e =
 
 -- ---- the field of a stop is shown, unless a reading check gave the stop
 -- the refusals of the reading checks are 3 to 11
-abbrev ByReading : Refusal → Type 0
+abbrev pub ByReading : Refusal → Type 0
 ByReading r = number_of r ≤ 11
 
 says : (f : Field) (ts : List (Test Refusal)) (r : Refusal) → Every (λ t. ByReading t.says) ts → in_order Unread (Got f) ts ≡ Unread r → ByReading r
@@ -307,7 +307,7 @@ read_refusal s r e =
     says f (framing_checks s ++ value_checks (row_of (tag_in s)) f) r
     (omega arith, (omega arith, (omega arith, (omega arith, (omega arith, (omega arith, (omega arith, (omega arith, tt)))))))) e
 
-parse_end : (k : ℕ) (b : List ℕ) (r : Refusal) → (parse k b).end ≡ unread r → ByReading r
+pub parse_end : (k : ℕ) (b : List ℕ) (r : Refusal) → (parse k b).end ≡ unread r → ByReading r
 parse_end zero [] r e = absurd (let z : ◌≡◌ {A = ℕ} 0 1 = cc in omega arith)
 parse_end zero (x ∷ b) r e = let same : TooManyFields ≡ r = cc in subst ByReading same (omega arith)
 parse_end (suc k) [] r e = absurd (let z : ◌≡◌ {A = ℕ} 0 1 = cc in omega arith)

@@ -118,7 +118,7 @@ same_field_lem (Release p) f e = refl
 same_field_lem (Move x y) f e = refl
 same_field_lem (Put x v) f e = refl
 
-same_copy : (s : State) (k : ReplayCell) (c : Change) (f : Field) → gives c ≡ [] → recast (copy_change s k c) f ≡ f
+pub same_copy : (s : State) (k : ReplayCell) (c : Change) (f : Field) → gives c ≡ [] → recast (copy_change s k c) f ≡ f
 same_copy s k c f e = ap (λ (b : Change). recast b f) (same_change s k c e) ∙ same_field_lem c f e
 
 giving_none : {r : Row} {command : Field → Act} → ((f : Field) → Facts r f → NamedAct (command f))
@@ -184,6 +184,31 @@ fine =
 fine_at : (tag : ℕ) → Fine (row_of tag) (command_of tag)
 unfolding row_of command_of
 fine_at tag = at_row Fine rows commands tag (giving_none (λ f h. (tt, tt)) (λ f q. tt) (λ f. refl)) fine
+
+-- a field's own command, put back into the field, leaves it as it is
+own : RowByRow (λ r command. (f : Field) → recast (command f).change f ≡ f) rows commands
+own =
+    (λ f. refl)
+    ▹ (λ f. refl)
+    ▹ (λ f. refl)
+    ▹ (λ f. refl)
+    ▹ (λ f. refl)
+    ▹ (λ f. refl)
+    ▹ (λ f. refl)
+    ▹ (λ f. refl)
+    ▹ (λ f. refl)
+    ▹ (λ f. refl)
+    ▹ (λ f. refl)
+    ▹ (λ f. refl)
+    ▹ (λ f. refl)
+    ▹ (λ f. refl)
+    ▹ (λ f. refl)
+    ▹ (λ f. refl)
+    ▹ tt
+
+pub own_field : (f : Field) → recast (act_of f).change f ≡ f
+unfolding command_of
+own_field f = at_row (λ r command. (g : Field) → recast (command g).change g ≡ g) rows commands f.tag (λ g. refl) own f
 
 -- ---- of a field that was read
 pub act_copy : (s : State) (k : ReplayCell) (f : Field) → act_of (copy_field s k f) ≡ copy_act s k (act_of f)

@@ -1,13 +1,14 @@
 -- Where no two mallocs name one cell, the reading without marks gives the same verdict, and the same state but for the marks.
 -- The marks are then honest: a word is valid exactly where its cell is not freed. Assumes nothing.
-use Prim.Native.Nat.{◌*◌, ◌+◌, ◌/◌, ◌<◌, ℕ}
+use Prim.Native.Nat.{◌*◌, ◌+◌, ◌/◌, ◌<◌, suc, zero, ℕ}
 use mathlib.Core.Path.{◌∙◌, ◌≡◌, ap, ap₂, refl, subst, sym}
 use mathlib.Core.Bool.{Bool, cond, false, not, true}
-use mathlib.Core.List.{List, [], ◌++◌, ◌∷◌, map}
+use mathlib.Core.List.{List, [], ◌++◌, ◌∷◌, append_assoc, map}
+use native.Mathlib.Nat.{le_of_suc-le-suc, not-suc-le-zero}
 use native.Mathlib.Omega.{arith}
 use borrow.Author.Tests.{eqb-true, ne_eqb}
 use lib.Dec.{eqb}
-use lib.ListN.{get_or-eq_default, get_or-map, get_or, set}
+use lib.ListN.{get_or-eq_default, get_or-map, get_or, length, set, take}
 use Rattle.fields.specs.declared.RecordedCell.{RecordedCell}
 use Rattle.fields.specs.declared.Field.{Field}
 use Rattle.fields.specs.declared.Refusal.TheVariants.{UnsetPointer}
@@ -35,17 +36,19 @@ use Rattle.rules.specs.Acts.{data_place, frees, gives, place, pointer_through, t
 use Rattle.rules.specs.Commands.{act_of}
 use Rattle.rules.specs.Check.{check, check_by, holds, points, same_as_wanted, valid}
 use Rattle.rules.specs.Effect.{apply, change_own, change_word, count_field, effect, free, give}
-use Rattle.rules.specs.Run.{End, Ending, Outcome, end_verdict, next, run_to, unread, whole}
+use Rattle.rules.specs.Run.{Accepted, End, Ending, Outcome, end_verdict, next, run, run_to, unread, whole}
 use Rattle.rules.specs.Matching.{Live, Owned}
 use Rattle.rules.specs.Plain.{Distinct, apply_plain, check_plain, free_plain, given_by, run_plain_to, unfreed}
 use Rattle.rules.proofs.Checks.{Clear, each_same}
+use Rattle.theorems.specs.Beside.{passing}
+use Rattle.theorems.specs.Renewed.{NewCells, field_at}
 use Rattle.theorems.proofs.Basics.{eqb_self, every_map, map-set, set_get_d, split}
 use Rattle.theorems.proofs.Words.{cell-after_free, cell-cell, cell-invalidated, cell_small, cell-unset, freed_at, unset-cell, valid_below, valid-invalidated}
 use Rattle.theorems.proofs.States.{Sized, Within, cleared_at, eq_place, status_set, word-free, word-give, word_write}
 use Rattle.theorems.proofs.Passed.{looked, passed}
 use Rattle.theorems.proofs.Kept.{Inv, Named, NamedAct, found, freed-live, inv_fresh, keep, live_below, status_fresh, word-fresh}
 use Rattle.theorems.proofs.Effects.{still}
-use Rattle.theorems.proofs.Replayed.{All}
+use Rattle.theorems.proofs.Replayed.{All, next-accepted}
 
 -- ---- words and lists with their marks taken away
 same_cells : (wanted : Bool) (v w : ℕ) → same_as_wanted wanted (cell_of v) (cell_of w) ≡ same_as_wanted wanted v w
@@ -329,3 +332,52 @@ unmarked_fresh = refl
 -- the outcome is the same but for the marks, stops included
 pub plain_outcome : (end : End) (fs : List Field) → All NamedAct fs → Distinct (given_by fs) → run_plain_to end fs fresh ≡ unmarked_outcome (run_to end fs fresh)
 plain_outcome end fs a d = rw unmarked_fresh at (unmarked_run end fs fresh (record { inv = inv_fresh; honest = honest_fresh; unused = unused_fresh (given_by fs); distinct = d }) a)
+
+-- ---- the same, where no two mallocs that pass name one cell: those after the stop play no part
+unmarked_passing : (end : End) (fs : List Field) (s : State) → Clean s (given_by (passing fs s)) → All NamedAct fs → run_plain_to end fs (unmarked s) ≡ unmarked_outcome (run_to end fs s)
+unfolding unmarked_outcome
+unmarked_passing end [] s C a = ap (λ (v : Ending). record { verdict = v; state = unmarked s }) (unmarked_end end s)
+unmarked_passing end (f ∷ fs) s C a =
+    rw (check_unmarked (act_of f) s C.honest, unmarked_apply (act_of f).change s a.0.1, unmarked_count_field (apply (act_of f).change s))
+    (unmarked_next (check (act_of f) s) f s (run_to end fs (effect (act_of f) s)) (run_plain_to end fs (unmarked (effect (act_of f) s)))
+    (λ e. unmarked_passing end fs (effect (act_of f) s) (clean_step (act_of f) s (given_by (passing fs (effect (act_of f) s))) (rw e at C) a.0.1 e) a.1))
+
+clean_fresh : (l : List RecordedCell) → Distinct l → Clean fresh l
+clean_fresh l d = record { inv = inv_fresh; honest = honest_fresh; unused = unused_fresh l; distinct = d }
+
+pub plain_passing : (end : End) (fs : List Field) → All NamedAct fs → Distinct (given_by (passing fs fresh)) → run_plain_to end fs fresh ≡ unmarked_outcome (run_to end fs fresh)
+plain_passing end fs a d = rw unmarked_fresh at (unmarked_passing end fs fresh (clean_fresh (given_by (passing fs fresh)) d) a)
+
+-- ---- where no two mallocs of an accepted log name one cell, each gets a cell never used before
+new_at : (fs : List Field) (s : State) (n k l : ℕ) → Clean s (given_by fs) → All NamedAct fs → (run fs s).verdict ≡ Accepted n k l → (i : ℕ) → i < length fs
+    → Unused (status_of (run (take i fs) s).state) (gives (act_of (field_at fs i)).change)
+new_at [] s n k l C a e i h = absurd (not-suc-le-zero h)
+new_at (f ∷ fs) s n k l C a e zero h = (every_cut (λ c. status_of s c.0 ≡ never_used) (gives (act_of f).change) (given_by fs) C.unused).0
+new_at (f ∷ fs) s n k l C a e (suc i) h =
+    let here : check (act_of f) s ≡ Go = next-accepted (check (act_of f) s) f s (run fs (effect (act_of f) s)) n k l e in
+    rw here (new_at fs (effect (act_of f) s) n k l (clean_step (act_of f) s (given_by fs) C a.0.1 here) a.1 (rw here at e) i (le_of_suc-le-suc h))
+
+pub new_cells : (fs : List Field) (n k l : ℕ) → All NamedAct fs → Distinct (given_by fs) → (run fs fresh).verdict ≡ Accepted n k l → NewCells fs
+new_cells fs n k l a d e = new_at fs fresh n k l (clean_fresh (given_by fs) d) a e
+
+-- ---- where no two of all mallocs do, no two of those that pass do
+distinct_front : (l m : List RecordedCell) → Distinct (l ++ m) → Distinct l
+distinct_front [] m d = tt
+distinct_front (c ∷ l) m d = ((every_cut (λ k. c ≡ k → ⊥) l m d.0).0, distinct_front l m d.1)
+
+-- the cells of the fields that pass are the first of all
+given_front : (fs : List Field) (s : State) → (rest : List RecordedCell) × (given_by fs ≡ given_by (passing fs s) ++ rest)
+given_front [] s = ([], refl)
+given_front (f ∷ fs) s = by (check (act_of f) s) refl (given_front fs (effect (act_of f) s))
+  where
+    by : (x : Answer) → check (act_of f) s ≡ x → (rest : List RecordedCell) × (given_by fs ≡ given_by (passing fs (effect (act_of f) s)) ++ rest)
+        → (rest : List RecordedCell) × (given_by (f ∷ fs) ≡ given_by (passing (f ∷ fs) s) ++ rest)
+    by Go e later =
+        let here = gives (act_of f).change in
+        let passed = given_by (passing fs (effect (act_of f) s)) in
+        rw e (later.0, ap (λ (l : List RecordedCell). here ++ l) later.1 ∙ sym (append_assoc here passed later.0))
+    by (Race v) e later = rw e (given_by (f ∷ fs), refl)
+    by (Refuse r) e later = rw e (given_by (f ∷ fs), refl)
+
+pub passing_distinct : (fs : List Field) (s : State) → Distinct (given_by fs) → Distinct (given_by (passing fs s))
+passing_distinct fs s d = let front = given_front fs s in distinct_front (given_by (passing fs s)) front.0 (rw front.1 at d)

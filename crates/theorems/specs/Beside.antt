@@ -1,6 +1,6 @@
 -- The rules beside source 004: its notions as they are read off a state, and its commands as the commands of the rules say them.
 -- Where document 01 differs from the paper, or the paper is silent, a comment says so. Assumes nothing.
-use Rattle.std.specs.Prelude.{ℕ, ◌+◌, ◌*◌, ◌%◌, ◌≡◌, Bool, true, false, not, cond, ◌⊎◌, List, [], ◌∷◌, eqb, get_or}
+use Rattle.std.specs.Prelude.{ℕ, ◌+◌, ◌*◌, ◌%◌, ◌≡◌, Bool, true, false, not, cond, ◌⊎◌, List, [], ◌∷◌, ◌++◌, eqb, get_or}
 use Rattle.fields.specs.declared.Field.{Field}
 use Rattle.fields.specs.declared.RecordedCell.{RecordedCell}
 use Rattle.fields.specs.Every.{Every}
@@ -22,7 +22,7 @@ use Rattle.rules.specs.Acts.{gives}
 use Rattle.rules.specs.Commands.{does, asserts, act_of}
 use Rattle.rules.specs.Check.{check}
 use Rattle.rules.specs.Effect.{effect}
-use Rattle.theorems.specs.Paper.{Selector, index, Cond, same_pointers, same_data, negated, Com, Assert, Malloc, Free, Load, Store, Copy, ReadData, WriteData, Compute, Adr, seg, cell, PExp, pointer_var, next_of, DExp, data_var, data_of, Partial, undefined, defined, Update, pointer_to, data_to, Computation, then, heap_of, freed_in, valid_in, PointerRace, RaceFree, Rule, MemoryManaged}
+use Rattle.theorems.specs.Paper.{Selector, index, Cond, same_pointers, same_data, negated, Com, Assert, Malloc, Free, Load, Store, Copy, ReadData, WriteData, Compute, Adr, seg, cell, PExp, pointer_var, next_of, DExp, data_var, data_of, Partial, undefined, defined, Update, pointer_to, data_to, Computation, then, heap_of, freed_in, valid_in, contained, NotValid, PointerRace, RaceFree, Rule, MemoryManaged}
 
 -- ---- where document 01 differs from the paper, or the paper leaves a choice
 -- Sizes: the paper bounds neither variables, addresses nor computations; 3, 8, 10 and 11 are limits of document 01.
@@ -114,6 +114,15 @@ pub data Takes : Act → List Com → Type 0 where
 abbrev pub RaceIn : (PExp → Bool) → List Com → Type 0
 RaceIn valid [] = ⊥
 RaceIn valid (c ∷ cs) = PointerRace valid c ⊎ RaceIn valid cs
+
+-- the pointers of which Definition 2 speaks, command by command; and that v is the first of some pointers that is not valid
+abbrev pub contained_in : List Com → List ℕ
+contained_in [] = []
+contained_in (c ∷ cs) = contained c ++ contained_in cs
+
+abbrev pub FirstNotValid : (PExp → Bool) → List ℕ → ℕ → Type 0
+FirstNotValid valid [] v = ⊥
+FirstNotValid valid (p ∷ ps) v = (NotValid valid p × (p ≡ v)) ⊎ ((valid (pointer_var p) ≡ true) × FirstNotValid valid ps v)
 
 -- ---- a log as a computation
 -- the fields that pass, up to the first that does not

@@ -1,5 +1,6 @@
 -- Source 004, "Pointer Race Freedom", sections 2 and 3, in its own notions: heaps, updates, computations of the memory-managed
--- semantics, freed addresses, valid pointer expressions (Definition 1) and pointer races (Definition 2). Assumes nothing.
+-- semantics, freed addresses, valid pointer expressions (Definition 1), pointer races (Definition 2), and heaps that are isomorphic on
+-- the valid pointers (Definitions 3 and 4). Assumes nothing.
 use Rattle.std.specs.Prelude.{ℕ, ◌≡◌, Bool, true, false, not, cond, ◌&&◌, ◌||◌, ◌⊎◌, List, [], ◌∷◌, eqb}
 
 -- ---- 2, syntax
@@ -193,6 +194,27 @@ PointerRace valid (ReadData x p) = NotValid valid p
 PointerRace valid (WriteData p x) = NotValid valid p
 PointerRace valid (Compute x op xs) = ⊥
 
+-- the pointers of which that is asked, in the order in which the command names them; and that one of some pointers is not valid
+abbrev pub pointers_of : Cond → List ℕ
+pointers_of (same_pointers p q) = p ∷ q ∷ []
+pointers_of (same_data x y) = []
+pointers_of (negated c) = pointers_of c
+
+abbrev pub contained : Com → List ℕ
+contained (Assert c) = pointers_of c
+contained (Malloc p) = []
+contained (Free p) = p ∷ []
+contained (Load p q i) = q ∷ []
+contained (Store p i q) = p ∷ []
+contained (Copy p q) = []
+contained (ReadData x p) = p ∷ []
+contained (WriteData p x) = p ∷ []
+contained (Compute x op xs) = []
+
+abbrev pub SomeNotValid : (PExp → Bool) → List ℕ → Type 0
+SomeNotValid valid [] = ⊥
+SomeNotValid valid (p ∷ ps) = NotValid valid p ⊎ SomeNotValid valid ps
+
 abbrev pub RaceFree : Computation → Type 0
 RaceFree (initial d) = Unit {0}
 RaceFree (then τ act) = RaceFree τ × (PointerRace (valid_in τ) act.command → ⊥)
@@ -259,3 +281,41 @@ InRestriction h P a = ((i : Selector) × (P (next_of a i) ≡ true) × Defined (
 
 abbrev pub Lemma2 : Computation → Type 0
 Lemma2 τ = (a : ℕ) → freed_in τ a ≡ true → InRestriction (heap_of τ) (valid_in τ) a → ⊥
+
+-- ---- 3, Definitions 3 and 4: two computations whose heaps are isomorphic on the valid pointers
+-- an address mapping keeps seg and every variable; it maps a.next and a.data as it maps a
+abbrev pub map_adr : (ℕ → ℕ) → Adr → Adr
+map_adr f seg = seg
+map_adr f (cell a) = cell (f a)
+
+abbrev pub map_p_exp : (ℕ → ℕ) → PExp → PExp
+map_p_exp f (pointer_var p) = pointer_var p
+map_p_exp f (next_of a i) = next_of (f a) i
+
+abbrev pub map_d_exp : (ℕ → ℕ) → DExp → DExp
+map_d_exp f (data_var x) = data_var x
+map_d_exp f (data_of a) = data_of (f a)
+
+-- the values that h restricted to P has
+abbrev pub HasAdr : Heap → (PExp → Bool) → PExp → Adr → Type 0
+HasAdr h P e a = (P e ≡ true) × (h.pval e ≡ defined a)
+
+abbrev pub HasData : Heap → (PExp → Bool) → DExp → ℕ → Type 0
+HasData h P (data_var x) d = h.dval (data_var x) ≡ defined d
+HasData h P (data_of a) d = ((e : PExp) × HasAdr h P e (cell a)) × (h.dval (data_of a) ≡ defined d)
+
+-- h restricted to P and k restricted to Q: an address mapping that is bijective on the addresses in use, and of which the induced mapping
+-- of expressions is bijective (one to one it is by the addresses) and takes values to values
+pub record Isomorphic (h : Heap) (P : PExp → Bool) (k : Heap) (Q : PExp → Bool) : Type 0 where
+  pub iso : ℕ → ℕ
+  pub into : (a : ℕ) → InRestriction h P a → InRestriction k Q (iso a)
+  pub one : (a b : ℕ) → InRestriction h P a → InRestriction h P b → iso a ≡ iso b → a ≡ b
+  pub onto : (b : ℕ) → InRestriction k Q b → (a : ℕ) × InRestriction h P a × (iso a ≡ b)
+  pub pointers : (e : PExp) (a : Adr) → HasAdr h P e a → HasAdr k Q (map_p_exp iso e) (map_adr iso a)
+  pub all_pointers : (e : PExp) (b : Adr) → HasAdr k Q e b → (c : PExp) × (a : Adr) × HasAdr h P c a × (map_p_exp iso c ≡ e)
+  pub numbers : (e : DExp) (d : ℕ) → HasData h P e d → HasData k Q (map_d_exp iso e) d
+  pub all_numbers : (e : DExp) (d : ℕ) → HasData k Q e d → (c : DExp) × HasData h P c d × (map_d_exp iso c ≡ e)
+
+-- τ ≈ σ, of whose commands nothing is said here
+abbrev pub HeapEquivalent : Computation → Computation → Type 0
+HeapEquivalent τ σ = Isomorphic (heap_of τ) (valid_in τ) (heap_of σ) (valid_in σ)
