@@ -109,8 +109,8 @@ fn show(
     numbers: &mut [u32],
     status: &mut [u8],
 ) -> bool
-    requires beyond_bound { beyond ≤ 8 }
-    requires pointers_len { (length pointers.old ≡ 88) × ((length selectors.old ≡ 2056) × ((length variables.old ≡ 88) × ((length numbers.old ≡ 1032) × (length status.old ≡ 1032)))) }
+    requires within_spare { beyond ≤ 8 }
+    requires sized { (length pointers.old ≡ 88) × ((length selectors.old ≡ 2056) × ((length variables.old ≡ 88) × ((length numbers.old ≡ 1032) × (length status.old ≡ 1032)))) }
 {
     let p = lent(Board::POINTERS, 1, short, beyond);
     let s = lent(Heap::SELECTORS, 2, short, beyond);

@@ -18,7 +18,7 @@ pub use rows::{Row, Slot, value_length};
 pub use writer::write_field;
 
 // A log as a program holds it: its bytes, of which the first `length` count.
-#[derive(Drop)]
+#[derive(Clone, Copy)]
 pub struct Log {
     pub bytes: [u8; Log::ROOM],
     pub length: usize,

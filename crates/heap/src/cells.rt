@@ -72,7 +72,7 @@ fn count_up(others: u32, new: u8) -> u32
 // counted on; where it is the count of the statuses, so is the one handed back.
 pub fn change_status(status: &mut [u8], cell: usize, new: u8, live: u32) -> u32
     ensures status_after { status.new ≡ slice_set status.old cell new }
-    ensures value { result ≡ live_after status.old cell new live }
+    ensures live_counted { result ≡ live_after status.old cell new live }
 {
     if cell < status.len() {
         let others = count_down(live, status[cell]);

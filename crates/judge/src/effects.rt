@@ -120,7 +120,7 @@ pub fn give_cell(
     status: &mut [u8],
 ) -> Tally
     requires { (tally.mallocs ≤ log_fields) × Counts tally status.old }
-    ensures by_index { (variables : List ℕ) → state_of (board_of pointers.new variables) result selectors.new numbers.new status.new ≡ give p cell number (state_of (board_of pointers.old variables) tally selectors.old numbers.old status.old) }
+    ensures by_rule { (variables : List ℕ) → state_of (board_of pointers.new variables) result selectors.new numbers.new status.new ≡ give p cell number (state_of (board_of pointers.old variables) tally selectors.old numbers.old status.old) }
     ensures counts { Counts result status.new }
 {
     let at = cell as usize;
@@ -144,7 +144,7 @@ fn free_cell(
     status: &mut [u8],
 ) -> Tally
     requires { Counts tally status.old }
-    ensures by_index { (variables numbers : List ℕ) → state_of (board_of pointers.new variables) result selectors.new numbers status.new ≡ free cell (state_of (board_of pointers.old variables) tally selectors.old numbers status.old) }
+    ensures by_rule { (variables numbers : List ℕ) → state_of (board_of pointers.new variables) result selectors.new numbers status.new ≡ free cell (state_of (board_of pointers.old variables) tally selectors.old numbers status.old) }
     ensures counts { Counts result status.new }
 {
     sweep(pointers, cell);
@@ -167,7 +167,7 @@ pub fn release(
     status: &mut [u8],
 ) -> Tally
     requires { Counts tally status.old }
-    ensures by_index { (variables numbers : List ℕ) → state_of (board_of pointers.new variables) result selectors.new numbers status.new ≡ apply (Change.Release p) (state_of (board_of pointers.old variables) tally selectors.old numbers status.old) }
+    ensures by_rule { (variables numbers : List ℕ) → state_of (board_of pointers.new variables) result selectors.new numbers status.new ≡ apply (Change.Release p) (state_of (board_of pointers.old variables) tally selectors.old numbers status.old) }
     ensures counts { Counts result status.new }
 {
     let word = word_at(pointers, p as usize);

@@ -56,8 +56,8 @@ fn run_fresh(
     numbers: &mut [u32],
     status: &mut [u8],
 ) -> Ran
-    requires log_len_bound { length log.now ≤ log_bytes }
-    requires selectors_len { (length selectors.old ≡ heap_selectors) × ((length numbers.old ≡ cells) × (length status.old ≡ cells)) }
+    requires log_fits { length log.now ≤ log_bytes }
+    requires sized { (length selectors.old ≡ heap_selectors) × ((length numbers.old ≡ cells) × (length status.old ≡ cells)) }
     ensures ran_to { RanTo log.now (run_bytes log_fields log.now fresh) result selectors.new numbers.new status.new }
     ensures counts { Counts result.tally status.new }
     ensures copies { Copies log.now fresh out.old out.new }
@@ -76,9 +76,9 @@ pub fn run_lent(
     numbers: &mut [u32],
     status: &mut [u8],
 ) -> Judged
-    requires log_len_bound { length log.now ≤ log_bytes }
+    requires log_fits { length log.now ≤ log_bytes }
     requires long_enough { LongEnough pointers.old selectors.old variables.old numbers.old status.old }
-    ensures tally_after { (tally : Tally) → judged result.verdict (lent pointers.new selectors.new variables.new numbers.new status.new result.tally) ≡ shown log.now (lent pointers.old selectors.old variables.old numbers.old status.old tally) }
+    ensures shows { (tally : Tally) → judged result.verdict (lent pointers.new selectors.new variables.new numbers.new status.new result.tally) ≡ shown log.now (lent pointers.old selectors.old variables.old numbers.old status.old tally) }
     ensures copies { Copies log.now fresh out.old out.new }
 {
     let ran = run_fresh(

@@ -53,10 +53,10 @@ fn play_malloc(
     numbers: &mut [u32],
     status: &mut [u8],
 ) -> Played
-    requires fields_le_log_fields { (tally.fields ≤ log_fields) × (tally.mallocs ≤ log_fields) }
+    requires within_log { (tally.fields ≤ log_fields) × (tally.mallocs ≤ log_fields) }
     requires counts { Counts tally status.old }
-    ensures status_after { played result pointers.new variables.now selectors.new numbers.new status.new ≡ step_of (record { guard = guard; change = Change.Allocate p cell number }) (state_of (board_of pointers.old variables.now) tally selectors.old numbers.old status.old) }
-    ensures counts_2 { Counts result.tally status.new }
+    ensures by_rule { played result pointers.new variables.now selectors.new numbers.new status.new ≡ step_of (record { guard = guard; change = Change.Allocate p cell number }) (state_of (board_of pointers.old variables.now) tally selectors.old numbers.old status.old) }
+    ensures still_counts { Counts result.tally status.new }
 {
     if tally.mallocs < (Log::MALLOCS as u32) {
         let answer = check_guard(guard, pointers, variables, check_vacant(status, cell));
@@ -88,7 +88,7 @@ fn play_free(
     status: &mut [u8],
 ) -> Played
     requires { (tally.fields ≤ log_fields) × Counts tally status.old }
-    ensures by_index { (numbers : List ℕ) → played result pointers.new variables.now selectors.new numbers status.new ≡ step_of (record { guard = guard; change = Change.Release p }) (state_of (board_of pointers.old variables.now) tally selectors.old numbers status.old) }
+    ensures by_rule { (numbers : List ℕ) → played result pointers.new variables.now selectors.new numbers status.new ≡ step_of (record { guard = guard; change = Change.Release p }) (state_of (board_of pointers.old variables.now) tally selectors.old numbers status.old) }
     ensures counts { Counts result.tally status.new }
 {
     let answer = check_guard(guard, pointers, variables, race_at(pointers, Look::At(p)));
@@ -113,8 +113,8 @@ fn play_move(
     selectors: &mut [u16],
 ) -> Played
     requires { tally.fields ≤ log_fields }
-    ensures by_index { (numbers status : List ℕ) → played result pointers.new variables.now selectors.new numbers status ≡ step_of (record { guard = guard; change = Change.Move to from }) (state_of (board_of pointers.old variables.now) tally selectors.old numbers status) }
-    ensures live_value { result.tally.live ≡ tally.live }
+    ensures by_rule { (numbers status : List ℕ) → played result pointers.new variables.now selectors.new numbers status ≡ step_of (record { guard = guard; change = Change.Move to from }) (state_of (board_of pointers.old variables.now) tally selectors.old numbers status) }
+    ensures same_live { result.tally.live ≡ tally.live }
 {
     let passed = check_through(pointers, pointer_through(to), pointer_through(from));
     let answer = check_guard(guard, pointers, variables, passed);
@@ -136,8 +136,8 @@ fn play_assertion<'a>(
     variables: &'a [u32],
 ) -> Played
     requires { tally.fields ≤ log_fields }
-    ensures by_index { (selectors numbers status : List ℕ) → played result pointers.now variables.now selectors numbers status ≡ step_of (record { guard = guard; change = Change.Stay }) (state_of (board_of pointers.now variables.now) tally selectors numbers status) }
-    ensures live_value { result.tally.live ≡ tally.live }
+    ensures by_rule { (selectors numbers status : List ℕ) → played result pointers.now variables.now selectors numbers status ≡ step_of (record { guard = guard; change = Change.Stay }) (state_of (board_of pointers.now variables.now) tally selectors numbers status) }
+    ensures same_live { result.tally.live ≡ tally.live }
 {
     let answer = check_guard(guard, pointers, variables, Answer::Go);
     if goes(answer) {
@@ -160,10 +160,10 @@ pub fn play(
     numbers: &mut [u32],
     status: &mut [u8],
 ) -> Played
-    requires fields_le_log_fields { (tally.fields ≤ log_fields) × (tally.mallocs ≤ log_fields) }
+    requires within_log { (tally.fields ≤ log_fields) × (tally.mallocs ≤ log_fields) }
     requires counts { Counts tally status.old }
-    ensures status_after { played result pointers.new variables.new selectors.new numbers.new status.new ≡ step_of act (state_of (board_of pointers.old variables.old) tally selectors.old numbers.old status.old) }
-    ensures counts_2 { Counts result.tally status.new }
+    ensures by_rule { played result pointers.new variables.new selectors.new numbers.new status.new ≡ step_of act (state_of (board_of pointers.old variables.old) tally selectors.old numbers.old status.old) }
+    ensures still_counts { Counts result.tally status.new }
 {
     let guard = act.guard;
     let change = act.change;

@@ -21,7 +21,7 @@ fn replay_lent(
     numbers: &mut [u32],
     status: &mut [u8],
 ) -> Judged
-    requires log_len_bound { (length log.now ≤ log_bytes) × (length log.now ≤ length out.old) }
+    requires log_fits { (length log.now ≤ log_bytes) × (length log.now ≤ length out.old) }
     requires long_enough { LongEnough pointers.old selectors.old variables.old numbers.old status.old }
     ensures { (tally : Tally) → replayed result.verdict out.new (lent pointers.new selectors.new variables.new numbers.new status.new result.tally) ≡ written log.now out.old (lent pointers.old selectors.old variables.old numbers.old status.old tally) }
 {

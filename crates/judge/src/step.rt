@@ -27,10 +27,10 @@ pub fn step(
     numbers: &mut [u32],
     status: &mut [u8],
 ) -> Stepped
-    requires fields_le_log_fields { (tally.fields ≤ log_fields) × (tally.mallocs ≤ log_fields) }
+    requires within_log { (tally.fields ≤ log_fields) × (tally.mallocs ≤ log_fields) }
     requires counts { Counts tally status.old }
-    ensures status_after { stepped result selectors.new numbers.new status.new ≡ step_of (act_of field) (state_of board tally selectors.old numbers.old status.old) }
-    ensures counts_2 { Counts result.tally status.new }
+    ensures by_rule { stepped result selectors.new numbers.new status.new ≡ step_of (act_of field) (state_of board tally selectors.old numbers.old status.old) }
+    ensures still_counts { Counts result.tally status.new }
 {
     let mut pointers = board.pointers;
     let mut variables = board.variables;

@@ -9,7 +9,7 @@ ghost use Rattle.rules.specs.Verdicts.{printed_of};
 use fields::{Field, RecordedCell, Refusal};
 
 // Both sets of variables. It is handed in whole and handed back whole.
-#[derive(Drop)]
+#[derive(Clone, Copy)]
 pub struct Board {
     pub pointers: [u16; Board::POINTERS],
     pub variables: [u32; Board::VARIABLES],
@@ -31,7 +31,7 @@ impl Board {
 }
 
 // The cells: the selector words of cell a at 2a and 2a + 1, its data number and its status at a.
-#[derive(Drop)]
+#[derive(Clone, Copy)]
 pub struct Heap {
     pub selectors: [u16; Heap::SELECTORS],
     pub numbers: [u32; Heap::CELLS],
@@ -170,7 +170,7 @@ pub enum Verdict {
 }
 
 // A verdict as it is printed: a word and its numbers, of which the first so many count; the rest of each is 0.
-#[derive(Drop)]
+#[derive(Clone, Copy)]
 pub struct Printed {
     pub word: [u8; Printed::LETTERS],
     pub letters: usize,

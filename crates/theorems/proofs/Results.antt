@@ -218,8 +218,8 @@ module _ (log out : List ℕ) (before : Lent) (v : Verdict) (out' : List ℕ) (a
   pub stopped_unwritten : tells_accepted v ≡ false → out' ≡ out
   stopped_unwritten stopped = rw stopped at output_by
 
-  pub replay-declined_untouched : (r : Refusal) → v ≡ Declined r → (out' ≡ out) × (after ≡ before)
-  replay-declined_untouched r told = (stopped_unwritten (rw told refl), by replayed_by)
+  pub replay_declined_untouched : (r : Refusal) → v ≡ Declined r → (out' ≡ out) × (after ≡ before)
+  replay_declined_untouched r told = (stopped_unwritten (rw told refl), by replayed_by)
     where
       by : Ran ⊎ Declines → after ≡ before
       by (inl ran) = absurd (not_declined r (offset log) (run_bytes log_fields log fresh).verdict (sym told ∙ ap (λ (x : Replayed). x.verdict) ran.0))

@@ -4,8 +4,8 @@ use Rattle.heap.proofs.Counting.{live_kept}
 use Rattle.std.proofs.Common.{◌∙◌, rules}
 use Rattle.judge.proofs.effects.free_cell.Goals as goal
 
-pub returns-clause-by_index : goal.returns-clause-by_index
-returns-clause-by_index c =
+pub returns-clause-by_rule : goal.returns-clause-by_rule
+returns-clause-by_rule c =
     let a = c.args in
     λ variables numbers.
     free_join a.pointers.now _ variables a.tally _ a.selectors.now _ _ numbers a.status.now _
@@ -14,4 +14,4 @@ returns-clause-by_index c =
 pub returns-clause-counts : goal.returns-clause-counts
 returns-clause-counts c =
     let changed = c.change_status-live.ensures in
-    record { kept = rw changed.status_after (changed.value ∙ live_kept c.args.status.now _ _ _ c.requires.kept c.requires.few); few = search (rules, c.requires.few) }
+    record { kept = rw changed.status_after (changed.live_counted ∙ live_kept c.args.status.now _ _ _ c.requires.kept c.requires.few); few = search (rules, c.requires.few) }

@@ -19,7 +19,7 @@ returns-then-long_enough c =
     let a = c.args in
     let l = lent a.pointers.now a.selectors.now a.variables.now a.numbers.now a.status.now a.tally in
     let enough = sym (c.long_enough.ensures a.tally) ∙ c.if-long_enough.true in
-    c.run_lent.ensures.tally_after a.tally ∙ judged-shown a.log.now l (le-leb _ _ c.if-log-gt-BYTES.false) enough
+    c.run_lent.ensures.shows a.tally ∙ judged-shown a.log.now l (le-leb _ _ c.if-log-gt-BYTES.false) enough
 
 pub returns : goal.returns
 returns c =

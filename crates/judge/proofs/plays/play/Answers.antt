@@ -6,8 +6,8 @@ use Rattle.rules.specs.State.{state_of}
 use Rattle.std.proofs.Common.{refl}
 use Rattle.judge.proofs.plays.play.Goals as goal
 
-pub returns-then-goes-clause-status_after : goal.returns-then-goes-clause-status_after
-returns-then-goes-clause-status_after c =
+pub returns-then-goes-clause-by_rule : goal.returns-then-goes-clause-by_rule
+returns-then-goes-clause-by_rule c =
     let a = c.args in
     let s = state_of (board_of a.pointers.now a.variables.now) a.tally a.selectors.now a.numbers.now a.status.now in
     let passed = through_looks a.pointers.now c.data_through.result c.value_through.result _ _ _ c.data_through.ensures c.value_through.ensures c.check_through-passed.ensures in
@@ -15,8 +15,8 @@ returns-then-goes-clause-status_after c =
     rw c.count_field.ensures
     (play_kind a.act _ s _ c.in-Put.is (play_on a.act.guard _ s _ _ refl passed c.check_guard-answer.ensures _ c.goes.ensures _ c.if-goes.true put))
 
-pub returns-else-goes-clause-status_after : goal.returns-else-goes-clause-status_after
-returns-else-goes-clause-status_after c =
+pub returns-else-goes-clause-by_rule : goal.returns-else-goes-clause-by_rule
+returns-else-goes-clause-by_rule c =
     let a = c.args in
     let s = state_of (board_of a.pointers.now a.variables.now) a.tally a.selectors.now a.numbers.now a.status.now in
     let passed = through_looks a.pointers.now c.data_through.result c.value_through.result _ _ _ c.data_through.ensures c.value_through.ensures c.check_through-passed.ensures in

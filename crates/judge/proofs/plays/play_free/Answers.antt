@@ -11,19 +11,19 @@ pub count_field-requires : goal.count_field-requires
 count_field-requires c =
     let a = c.args in
     let s = state_of (board_of a.pointers.now a.variables.now) a.tally a.selectors.now [] a.status.now in
-    omega (arith, fields_kept (Release a.p) s _ (c.release-count.ensures.by_index a.variables.now []), c.requires.0)
+    omega (arith, fields_kept (Release a.p) s _ (c.release-count.ensures.by_rule a.variables.now []), c.requires.0)
 
-pub returns-then-goes-clause-by_index : goal.returns-then-goes-clause-by_index
-returns-then-goes-clause-by_index c =
+pub returns-then-goes-clause-by_rule : goal.returns-then-goes-clause-by_rule
+returns-then-goes-clause-by_rule c =
     let a = c.args in
     rw c.count_field.ensures (
     λ numbers.
     let s = state_of (board_of a.pointers.now a.variables.now) a.tally a.selectors.now numbers a.status.now in
-    play_on a.guard (Release a.p) s _ _ refl c.race_at.ensures c.check_guard-answer.ensures _ c.goes.ensures _ c.if-goes.true (c.release-count.ensures.by_index a.variables.now numbers)
+    play_on a.guard (Release a.p) s _ _ refl c.race_at.ensures c.check_guard-answer.ensures _ c.goes.ensures _ c.if-goes.true (c.release-count.ensures.by_rule a.variables.now numbers)
     )
 
-pub returns-clause-by_index : goal.returns-clause-by_index
-returns-clause-by_index c =
+pub returns-clause-by_rule : goal.returns-clause-by_rule
+returns-clause-by_rule c =
     let a = c.args in
     λ numbers.
     let s = state_of (board_of a.pointers.now a.variables.now) a.tally a.selectors.now numbers a.status.now in

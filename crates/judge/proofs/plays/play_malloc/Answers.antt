@@ -12,23 +12,23 @@ pub count_field-requires : goal.count_field-requires
 count_field-requires c =
     let a = c.args in
     let s = state_of (board_of a.pointers.now a.variables.now) a.tally a.selectors.now a.numbers.now a.status.now in
-    omega (arith, fields_kept (Allocate a.p a.cell a.number) s _ (c.give_cell-count.ensures.by_index a.variables.now), c.requires.fields_le_log_fields.0)
+    omega (arith, fields_kept (Allocate a.p a.cell a.number) s _ (c.give_cell-count.ensures.by_rule a.variables.now), c.requires.within_log.0)
 
-pub returns-then-goes-clause-status_after : goal.returns-then-goes-clause-status_after
-returns-then-goes-clause-status_after c =
+pub returns-then-goes-clause-by_rule : goal.returns-then-goes-clause-by_rule
+returns-then-goes-clause-by_rule c =
     let a = c.args in
     let s = state_of (board_of a.pointers.now a.variables.now) a.tally a.selectors.now a.numbers.now a.status.now in
     rw c.count_field.ensures
-    (play_on a.guard (Allocate a.p a.cell a.number) s _ _ (rw (lt-ltb _ _ c.if-tally.true)) c.check_vacant.ensures c.check_guard-answer.ensures _ c.goes.ensures _ c.if-goes.true (c.give_cell-count.ensures.by_index a.variables.now))
+    (play_on a.guard (Allocate a.p a.cell a.number) s _ _ (rw (lt-ltb _ _ c.if-tally.true)) c.check_vacant.ensures c.check_guard-answer.ensures _ c.goes.ensures _ c.if-goes.true (c.give_cell-count.ensures.by_rule a.variables.now))
 
-pub returns-then-tally-clause-status_after : goal.returns-then-tally-clause-status_after
-returns-then-tally-clause-status_after c =
+pub returns-then-tally-clause-by_rule : goal.returns-then-tally-clause-by_rule
+returns-then-tally-clause-by_rule c =
     let a = c.args in
     let s = state_of (board_of a.pointers.now a.variables.now) a.tally a.selectors.now a.numbers.now a.status.now in
     play_stop a.guard (Allocate a.p a.cell a.number) s _ _ (rw (lt-ltb _ _ c.if-tally.true)) c.check_vacant.ensures c.check_guard-answer.ensures _ c.goes.ensures c.if-goes.false
 
-pub returns-clause-status_after : goal.returns-clause-status_after
-returns-clause-status_after c =
+pub returns-clause-by_rule : goal.returns-clause-by_rule
+returns-clause-by_rule c =
     let a = c.args in
     let s = state_of (board_of a.pointers.now a.variables.now) a.tally a.selectors.now a.numbers.now a.status.now in
     play_full a.guard (Allocate a.p a.cell a.number) s TooManyMallocs (rw (le-ltb _ _ c.if-tally.false))

@@ -21,15 +21,15 @@ loop-at-preserved c =
     let went = c.in-Go.is in
     let place = ap (λ (k : ℕ). h.at + (3 + k)) c.value_length.ensures in
     let on = goes_on_lem step.result.answer h.tally.fields f h.at _ went place in
-    let o = onward_on _ _ h.at (length log) s _ on (turn_onward log h.at within f read.1 s _ step.ensures.status_after) in (
+    let o = onward_on _ _ h.at (length log) s _ on (turn_onward log h.at within f read.1 s _ step.ensures.by_rule) in (
       (o.0.1, (c.copy_field.auto.out ∙ h.invariant.0.1.0, (step.auto.selectors ∙ h.invariant.0.1.1.0, (step.auto.numbers ∙ h.invariant.0.1.1.1.0, step.auto.status ∙ h.invariant.0.1.1.1.1)))),
       (
         (omega (arith, o.1.0, read.0), omega (arith, o.1.0, o.1.1, h.invariant.1.0.1)),
-        loop_on log h.at within _ s _ _ _ _ (turn_got log h.at within f read.1 s _ step.ensures.status_after) (omega (arith, o.1.0, read.0)) h.invariant.1.1 _ on,
+        loop_on log h.at within _ s _ _ _ _ (turn_got log h.at within f read.1 s _ step.ensures.by_rule) (omega (arith, o.1.0, read.0)) h.invariant.1.1 _ on,
       ),
-      step.ensures.counts_2,
+      step.ensures.still_counts,
       offset_on h.tally.fields _ log h.at _ f h.invariant.3 read.1 place o.1.0,
-      underway_on log _ _ _ _ h.at s h.out h.invariant.4 h.invariant.0.1.0 (omega (arith, o.1.0, read.0)) within f read.1 _ step.ensures.status_after went _ place _ (c.copy_field.ensures h.board h.tally h.selectors),
+      underway_on log _ _ _ _ h.at s h.out h.invariant.4 h.invariant.0.1.0 (omega (arith, o.1.0, read.0)) within f read.1 _ step.ensures.by_rule went _ place _ (c.copy_field.ensures h.board h.tally h.selectors),
     )
 
 pub returns-in-Race-clause-ran_to : goal.returns-in-Race-clause-ran_to
@@ -44,7 +44,7 @@ returns-in-Race-clause-ran_to c =
     let step = c.step-stepped in
     let ending = Raced h.tally.fields f.thread c.in-Race.p in
     let end : next_after step.result.answer h.tally.fields f h.at ≡ ended ending = rw c.in-Race.is refl in
-    let ran = loop_ended log h.at within _ s _ _ _ (4095 - h.tally.fields) (turn_got log h.at within f read.1 s _ step.ensures.status_after) (omega (arith, read.0)) h.invariant.1.1 _ end ∙ run_opened _ _ _ in
+    let ran = loop_ended log h.at within _ s _ _ _ (4095 - h.tally.fields) (turn_got log h.at within f read.1 s _ step.ensures.by_rule) (omega (arith, read.0)) h.invariant.1.1 _ end ∙ run_opened _ _ _ in
     rw (c.ended.ensures, placed.1) (told_outcome log _ ending _ h.at h.invariant.3 ran)
 
 pub returns-in-Race-clause-copies : goal.returns-in-Race-clause-copies
@@ -59,7 +59,7 @@ returns-in-Race-clause-copies c =
     let step = c.step-stepped in
     let ending = Raced h.tally.fields f.thread c.in-Race.p in
     let end : next_after step.result.answer h.tally.fields f h.at ≡ ended ending = rw c.in-Race.is refl in
-    let ran = loop_ended log h.at within _ s _ _ _ (4095 - h.tally.fields) (turn_got log h.at within f read.1 s _ step.ensures.status_after) (omega (arith, read.0)) h.invariant.1.1 _ end ∙ run_opened _ _ _ in
+    let ran = loop_ended log h.at within _ s _ _ _ (4095 - h.tally.fields) (turn_got log h.at within f read.1 s _ step.ensures.by_rule) (omega (arith, read.0)) h.invariant.1.1 _ end ∙ run_opened _ _ _ in
     copied_none log _ _ _ ending _ ran (λ e. e)
 
 pub returns-in-Refuse-clause-ran_to : goal.returns-in-Refuse-clause-ran_to
@@ -74,7 +74,7 @@ returns-in-Refuse-clause-ran_to c =
     let step = c.step-stepped in
     let ending = Refused c.in-Refuse.why h.tally.fields in
     let end : next_after step.result.answer h.tally.fields f h.at ≡ ended ending = rw c.in-Refuse.is refl in
-    let ran = loop_ended log h.at within _ s _ _ _ (4095 - h.tally.fields) (turn_got log h.at within f read.1 s _ step.ensures.status_after) (omega (arith, read.0)) h.invariant.1.1 _ end ∙ run_opened _ _ _ in
+    let ran = loop_ended log h.at within _ s _ _ _ (4095 - h.tally.fields) (turn_got log h.at within f read.1 s _ step.ensures.by_rule) (omega (arith, read.0)) h.invariant.1.1 _ end ∙ run_opened _ _ _ in
     rw (c.ended-in-Refuse.ensures, placed.1) (told_outcome log _ ending _ h.at h.invariant.3 ran)
 
 pub returns-in-Refuse-clause-copies : goal.returns-in-Refuse-clause-copies
@@ -89,7 +89,7 @@ returns-in-Refuse-clause-copies c =
     let step = c.step-stepped in
     let ending = Refused c.in-Refuse.why h.tally.fields in
     let end : next_after step.result.answer h.tally.fields f h.at ≡ ended ending = rw c.in-Refuse.is refl in
-    let ran = loop_ended log h.at within _ s _ _ _ (4095 - h.tally.fields) (turn_got log h.at within f read.1 s _ step.ensures.status_after) (omega (arith, read.0)) h.invariant.1.1 _ end ∙ run_opened _ _ _ in
+    let ran = loop_ended log h.at within _ s _ _ _ (4095 - h.tally.fields) (turn_got log h.at within f read.1 s _ step.ensures.by_rule) (omega (arith, read.0)) h.invariant.1.1 _ end ∙ run_opened _ _ _ in
     copied_none log _ _ _ ending _ ran (λ e. e)
 
 pub returns-in-Refused-clause-ran_to : goal.returns-in-Refused-clause-ran_to
