@@ -19,8 +19,11 @@ BESIDE = {w: n + "_lem" for w, n in {
     "copied_at": "copied_at", "goes_on": "goes_on", "long-enough": "long_enough", "same-field": "same_field", "front-widths": "front_widths",
     "late-reuse": "late_reuse", "same-data": "same_data", "same-pointers": "same_pointers", "same-adr": "same_adr", "read_told": "read_told", "after_free": "after_free", "points_to": "points_to", "no_race": "no_race",
 }.items()}
-# Names that definitions bind.
-BOUND = {"parseRest": "parse_rest", "selectorsOfCell": "selectors_of_cell"}
+# Names that definitions bind, and lemmas on what the library calls get_or today.
+OTHERS = {
+    "parseRest": "parse_rest", "selectorsOfCell": "selectors_of_cell",
+    "get_d_set": "get_or-set", "set_get_d": "set-get_or", "getD-same": "get_or-same",
+}
 LIBRARY = set(
     "length take drop append map reverse set get get_or sum add mul sub div mod min max not and or cons nil replicate splice suc zero eq lt le refl".split()
 )
@@ -103,7 +106,7 @@ def main():
     if together:
         raise SystemExit(1)
     edge = r"[\w'\-]"
-    both = {"antt": turned | BESIDE | BOUND, "rt": turned}
+    both = {"antt": turned | BESIDE | OTHERS, "rt": turned}
     pattern = {kind: re.compile("(?<!" + edge + ")(" + "|".join(re.escape(w) for w in sorted(ws, key=len, reverse=True)) + ")(?!" + edge + ")") for kind, ws in both.items()}
     for path, text in texts.items():
         kind = path.rsplit(".", 1)[1]

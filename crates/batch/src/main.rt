@@ -65,11 +65,7 @@ fn end_cut(ends: Ends) -> ExitCode {
 }
 
 fn main(rt: HostRuntime) -> ExitCode {
-    let ends = Ends {
-        input: rt.stdin(),
-        output: rt.stdout(),
-        error: rt.stderr(),
-    };
+    let ends = Ends::of(&rt);
     let mut bytes = [0u8; Log::ROOM];
     for _ in 0..RECORDS {
         let record = read_record(rt.stdin(), &mut bytes);

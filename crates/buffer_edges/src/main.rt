@@ -154,11 +154,7 @@ fn judge_poisoned(ends: Ends, log: &[u8], short: u8, beyond: usize) -> bool
 }
 
 fn main(rt: HostRuntime) -> ExitCode {
-    let ends = Ends {
-        input: rt.stdin(),
-        output: rt.stdout(),
-        error: rt.stderr(),
-    };
+    let ends = Ends::of(&rt);
     let case = CASE_E;
     let long = [0u8; Log::ROOM];
     for short in 0..6u8 {

@@ -3,14 +3,13 @@ ghost use Rattle.std.specs.Prelude.{◌≡◌};
 ghost use Rattle.capi.specs.Showing.{show_call, show_left};
 
 use super::fronts::put_front;
+use super::single::DONE;
 use fields::Refusal;
 use rules::{Choice, Shown};
 use show::find_field;
 
 // The field's place and its number of bytes.
 const PART: usize = 2;
-
-const DONE: u32 = 0;
 
 #[unsafe(no_mangle)]
 pub extern "C" fn thawhazel_show(log: &[u8], number: u32, part: &mut [u32]) -> u32

@@ -11,7 +11,8 @@ const FIELD: usize = 7;
 // These, and the byte offset of what was read.
 const READ: usize = FIELD + 1;
 
-const DONE: u32 = 0;
+// What a call about one field returns where it did what it was called for.
+pub const DONE: u32 = 0;
 
 fn field_in(field: &[u32]) -> Field
     requires { 7 ≤ length field.now }

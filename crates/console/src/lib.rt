@@ -23,6 +23,16 @@ pub struct Ends {
     pub error: Stderr,
 }
 
+impl Ends {
+    pub fn of(rt: &HostRuntime) -> Self {
+        Ends {
+            input: rt.stdin(),
+            output: rt.stdout(),
+            error: rt.stderr(),
+        }
+    }
+}
+
 // Where a text goes.
 #[derive(Clone, Copy)]
 pub enum Target {
@@ -36,6 +46,7 @@ const NOT_WHOLE: u8 = 2;
 // More chunks than any input has.
 const CHUNKS: u64 = 0xffff_ffff_ffff_ffff;
 
+// Room for what the system says of an error.
 const REASON: usize = 256;
 
 // How many bytes of an error's text are what the system says; its number stands after them, in parentheses.
@@ -97,27 +108,26 @@ pub fn is_read(ends: Ends, stop: Stop, why: Option<Error>) -> bool
 
 // Writes all of it. Where that fails, a line on standard error says why.
 fn write_out(ends: Ends, target: Target, bytes: &[u8]) -> bool {
+    let mut output = ends.output;
+    let mut error = ends.error;
+    let put = match target {
+        Target::Output => write_whole(&mut output, bytes),
+        Target::Error => write_whole(&mut error, bytes),
+    };
+    match put {
+        Ok(()) => true,
+        Err(why) => {
+            say_failed(ends, name_of(target), why);
+            false
+        }
+    }
+}
+
+// A stream, as a line that says what failed begins with it.
+fn name_of(target: Target) -> &'static [u8] {
     match target {
-        Target::Output => {
-            let mut output = ends.output;
-            match write_whole(&mut output, bytes) {
-                Ok(()) => true,
-                Err(why) => {
-                    say_failed(ends, b"thawhazel: standard output", why);
-                    false
-                }
-            }
-        }
-        Target::Error => {
-            let mut error = ends.error;
-            match write_whole(&mut error, bytes) {
-                Ok(()) => true,
-                Err(why) => {
-                    say_failed(ends, b"thawhazel: standard error", why);
-                    false
-                }
-            }
-        }
+        Target::Output => b"thawhazel: standard output",
+        Target::Error => b"thawhazel: standard error",
     }
 }
 

@@ -33,11 +33,7 @@ fn answer(ends: Ends, log: &[u8]) -> bool {
 
 // A log that fills the room is longer than a log may be.
 fn main(rt: HostRuntime) -> ExitCode {
-    let ends = Ends {
-        input: rt.stdin(),
-        output: rt.stdout(),
-        error: rt.stderr(),
-    };
+    let ends = Ends::of(&rt);
     let mut bytes = [0u8; Log::ROOM];
     let read = streams::read_into(&mut rt.stdin(), &mut bytes);
     let length = read.length;

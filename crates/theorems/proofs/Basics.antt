@@ -36,8 +36,8 @@ every_map P Q [] f e = tt
 every_map P Q (x ∷ l) f e = (f x e.0, every_map P Q l f e.1)
 
 -- ---- an element after a store
-pub get_d_set : (l : List ℕ) (i j a d : ℕ) → i < length l → get_or (set l i a) j d ≡ cond (eqb i j) a (get_or l j d)
-get_d_set l i j a d h = split (eqb i j)
+pub get_or-set : (l : List ℕ) (i j a d : ℕ) → i < length l → get_or (set l i a) j d ≡ cond (eqb i j) a (get_or l j d)
+get_or-set l i j a d h = split (eqb i j)
     (λ e. rw (e) (subst (λ k. get_or (set l i a) k d ≡ a) (eqb-true i j e) (get_or-set_same l i a d h)))
     (λ e. rw (e) (get_or-set_other l i j a d (λ q. eqb-false i j e (sym q))))
 
@@ -54,17 +54,17 @@ in_map P f [] j d h q = q
 in_map P f (x ∷ l) zero d h q = h x q
 in_map P f (x ∷ l) (suc j) d h q = in_map P f l j d h q
 
-pub get_d_same : (n i a : ℕ) → get_or (replicate n a) i a ≡ a
-get_d_same zero i a = refl
-get_d_same (suc n) zero a = refl
-get_d_same (suc n) (suc i) a = get_d_same n i a
+pub get_or-same : (n i a : ℕ) → get_or (replicate n a) i a ≡ a
+get_or-same zero i a = refl
+get_or-same (suc n) zero a = refl
+get_or-same (suc n) (suc i) a = get_or-same n i a
 
 pub map-set : (f : ℕ → ℕ) (l : List ℕ) (i a : ℕ) → map f (set l i a) ≡ set (map f l) i (f a)
 map-set f [] i a = refl
 map-set f (x ∷ l) zero a = refl
 map-set f (x ∷ l) (suc i) a = ap (λ (r : List ℕ). f x ∷ r) (map-set f l i a)
 
-pub set_get_d : (l : List ℕ) (i d a : ℕ) → get_or l i d ≡ a → set l i a ≡ l
-set_get_d [] i d a e = refl
-set_get_d (x ∷ l) zero d a e = ap (λ (y : ℕ). y ∷ l) (sym e)
-set_get_d (x ∷ l) (suc i) d a e = ap (λ (r : List ℕ). x ∷ r) (set_get_d l i d a e)
+pub set-get_or : (l : List ℕ) (i d a : ℕ) → get_or l i d ≡ a → set l i a ≡ l
+set-get_or [] i d a e = refl
+set-get_or (x ∷ l) zero d a e = ap (λ (y : ℕ). y ∷ l) (sym e)
+set-get_or (x ∷ l) (suc i) d a e = ap (λ (r : List ℕ). x ∷ r) (set-get_or l i d a e)

@@ -24,7 +24,7 @@ use Rattle.rules.specs.Effect.{count_field, free, give}
 use Rattle.rules.specs.Replay.{starting_data}
 use Rattle.rules.specs.Matching.{Live, Owned}
 use Rattle.rules.proofs.Checks.{Clear}
-use Rattle.theorems.proofs.Basics.{clash, eqb_self, get_d_set, split}
+use Rattle.theorems.proofs.Basics.{clash, eqb_self, get_or-set, split}
 use Rattle.theorems.proofs.Words.{freed_at, freed_at_valid, valid-cell}
 use Rattle.theorems.proofs.States.{Sized, Within, cleared_at, count_set, eq_place, status_set, word-free, word-give, word_write}
 use Rattle.theorems.proofs.Passed.{reached}
@@ -44,7 +44,7 @@ still s c k z h o =
 pub cell-give : (s : State) (p c d k : ℕ) → Sized s → c < 1024 → number_at (give p c d s).numbers k ≡ cond (eqb c k) (starting_data s (record { 0 = c }) d) (number_at s.numbers k)
 unfolding give starting_data
 cell-give s p c d k z h = split (eqb (status_of s c) never_used)
-    (λ e. rw (e) (get_d_set s.numbers c k d 0 (omega (arith, z.numbers))))
+    (λ e. rw (e) (get_or-set s.numbers c k d 0 (omega (arith, z.numbers))))
     (λ e. rw (e) (split (eqb c k)
     (λ t. rw (t, eqb-true c k t) refl)
     (λ t. rw t refl)))
@@ -126,7 +126,7 @@ module _ {R S : State} {m : ℕ → ℕ} (P : Pair R S m) where
     equal = λ k o.
         let i : c < 1024 = live_below R c P.left.sized h in
         let j : m c < 1024 = live_below S (m c) P.right.sized (M.live c h) in
-        rw (get_d_set R.numbers c k n 0 (omega (arith, P.left.sized.numbers)), get_d_set S.numbers (m c) (m k) n 0 (omega (arith, P.right.sized.numbers)), eqb_m P c k h o)
+        rw (get_or-set R.numbers c k n 0 (omega (arith, P.left.sized.numbers)), get_or-set S.numbers (m c) (m k) n 0 (omega (arith, P.right.sized.numbers)), eqb_m P c k h o)
         (ap (cond (eqb c k) n) (M.equal k o));
   }
 

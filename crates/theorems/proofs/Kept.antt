@@ -32,7 +32,7 @@ use Rattle.rules.specs.Check.{check, points, valid}
 use Rattle.rules.specs.Effect.{apply, count_field, effect, free, give}
 use Rattle.rules.specs.Matching.{Owned}
 use Rattle.rules.proofs.Checks.{Clear}
-use Rattle.theorems.proofs.Basics.{get_d_same, split}
+use Rattle.theorems.proofs.Basics.{get_or-same, split}
 use Rattle.theorems.proofs.Words.{cell_small}
 use Rattle.theorems.proofs.States.{Sized, Within, length-change_own, status_set, word-free, word-give, word_write}
 use Rattle.theorems.proofs.Passed.{Passed, Set, looked, passed, reached}
@@ -211,12 +211,12 @@ keep a s v n e = keep_count_field (apply a.change s) (keep_change a.change s v n
 -- ---- the start
 pub word-fresh : (x : Place) → word fresh x ≡ unset
 unfolding fresh
-word-fresh (PointerWord i) = get_d_same 80 i unset
-word-fresh (SelectorWord j) = get_d_same 2048 j unset
+word-fresh (PointerWord i) = get_or-same 80 i unset
+word-fresh (SelectorWord j) = get_or-same 2048 j unset
 
 pub status_fresh : (c : ℕ) → status_of fresh c ≡ never_used
 unfolding fresh
-status_fresh c = get_d_same 1024 c never_used
+status_fresh c = get_or-same 1024 c never_used
 
 sized_fresh : Sized fresh
 unfolding fresh

@@ -18,7 +18,7 @@ use Rattle.rules.specs.Replay.{starting_data}
 use Rattle.rules.specs.Matching.{Live, Owned}
 use Rattle.theorems.specs.Paper.{Adr, DExp, Heap, InUse, PExp, Partial, Selector, cell, data_of, data_var, defined, index, is_next_of, next_of, next₀, next₁, pointer_var, points_to, same_d_exp, same_p_exp, seg, undefined}
 use Rattle.theorems.specs.Beside.{adr_of, dval_of, freed_of, is_allocated, is_there, place_of, pval_of, valid_of}
-use Rattle.theorems.proofs.Basics.{clash, eqb_self, eqb_turn, get_d_set, split}
+use Rattle.theorems.proofs.Basics.{clash, eqb_self, eqb_turn, get_or-set, split}
 use Rattle.theorems.proofs.Words.{after_free-unset, cell_freed_at, cell_small, cell-unset, freed_at, unset_freed_at, unset-unset, valid_below, valid-invalidated}
 use Rattle.theorems.proofs.States.{Sized, Within, cleared_at, eq_place, status_set, word-free, word-give, word_write}
 use Rattle.theorems.proofs.Sound.{owned}
@@ -131,7 +131,7 @@ module _ (s : State) (x : PExp) (w : ℕ) (z : Sized s) (within : Within (place_
 -- ---- data after a store
 pub dval_variable : (s : State) (x n : ℕ) (e : DExp) → Sized s → x < 80 → dval_of (store (VariableNumber x) n s) e ≡ cond (same_d_exp (data_var x) e) (defined n) (dval_of s e)
 unfolding store
-dval_variable s x n (data_var y) z h = rw (get_d_set s.variables x y n 0 (omega (arith, z.variables))) (split (eqb x y) (λ t. rw t refl) (λ t. rw t refl))
+dval_variable s x n (data_var y) z h = rw (get_or-set s.variables x y n 0 (omega (arith, z.variables))) (split (eqb x y) (λ t. rw t refl) (λ t. rw t refl))
 dval_variable s x n (data_of a) z h = refl
 
 pub allocated_live : (s : State) (a : ℕ) → Live s a → is_allocated s a ≡ true
@@ -140,7 +140,7 @@ allocated_live s a h = rw h refl
 pub dval_cell : (s : State) (a n : ℕ) (e : DExp) → Sized s → Live s a → a < 1024 → dval_of (store (CellNumber a) n s) e ≡ cond (same_d_exp (data_of a) e) (defined n) (dval_of s e)
 unfolding store
 dval_cell s a n (data_var y) z l h = refl
-dval_cell s a n (data_of b) z l h = rw (get_d_set s.numbers a b n 0 (omega (arith, z.numbers))) (split (eqb a b)
+dval_cell s a n (data_of b) z l h = rw (get_or-set s.numbers a b n 0 (omega (arith, z.numbers))) (split (eqb a b)
     (λ t.
     let there : is_allocated s b ≡ true = allocated_live s b (rw (eqb-true a b t) at l) in
     rw (t, there) refl)

@@ -31,7 +31,7 @@ use Rattle.rules.specs.Log.{parse, run_bytes}
 use Rattle.rules.proofs.Checks.{Clear}
 use Rattle.theorems.specs.Paper.{Asrt, Assert, Com, Computation, Cond, DExp, MemoryManaged, PExp, PointerRace, RaceFree, data_of, data_var, dval_at_first, heap_of, index, initial, next_of, passes, pointer_var, pval_at_first, then, valid_in}
 use Rattle.theorems.specs.Beside.{Computed, RaceIn, Says, Shows, Steps, Takes, assertion, both, change, dval_of, passing, place_of, pval_of, says_constant, says_copy, says_free, says_load, says_malloc, says_read, says_store, says_sum, says_write, valid_of, wrapping_sum}
-use Rattle.theorems.proofs.Basics.{clash, get_d_same, split}
+use Rattle.theorems.proofs.Basics.{clash, get_or-same, split}
 use Rattle.theorems.proofs.Words.{cell_small, unset-unset, valid_below}
 use Rattle.theorems.proofs.States.{status_set, word-free, word-give, word_write}
 use Rattle.theorems.proofs.Passed.{Passed, looked, passed, reached}
@@ -202,7 +202,7 @@ shows_fresh = record { pointers = pointers; numbers = numbers; marks = λ e. rw 
     pointers (next_of a i) = rw (status_fresh a) refl
 
     numbers : (e : DExp) → dval_at_first (λ x. 0) e ≡ dval_of fresh e
-    numbers (data_var x) = unfold fresh in (rw (get_d_same 80 x 0) refl)
+    numbers (data_var x) = unfold fresh in (rw (get_or-same 80 x 0) refl)
     numbers (data_of a) = rw (status_fresh a) refl
 
 standing_fresh : Standing fresh (initial (λ x. 0))

@@ -23,7 +23,7 @@ use Rattle.rules.specs.State.{State, fresh, never_used, number_at, pointer, stat
 use Rattle.rules.specs.Acts.{data_place, place, value}
 use Rattle.rules.specs.Effect.{apply, change_own, change_word, count_field, effect, free, give}
 use Rattle.rules.specs.Replay.{starting_data}
-use Rattle.theorems.proofs.Basics.{get_d_same, in_map, in_set, split}
+use Rattle.theorems.proofs.Basics.{get_or-same, in_map, in_set, split}
 use Rattle.theorems.proofs.Kept.{Named, word-fresh}
 
 -- ---- a property of words that every command keeps
@@ -146,4 +146,4 @@ starting_data_below s c d h b = either (λ n. n < 4294967296) (eqb (status_of s 
 
 pub bounded_fresh : Bounded fresh
 unfolding fresh
-bounded_fresh = record { variables = λ x. rw (get_d_same 80 x 0) (omega arith); numbers = λ c. rw (get_d_same 1024 c 0) (omega arith) }
+bounded_fresh = record { variables = λ x. rw (get_or-same 80 x 0) (omega arith); numbers = λ c. rw (get_or-same 1024 c 0) (omega arith) }

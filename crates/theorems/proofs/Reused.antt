@@ -24,8 +24,8 @@ use Rattle.theorems.specs.Beside.{passing}
 abbrev log_d : List Field
 log_d = handed_on ++ (M 1 5 7 ∷ late_read ∷ [])
 
-abbrev late_reuse : List Field
-late_reuse = handed_on ++ (late_read ∷ M 1 5 7 ∷ [])
+abbrev log_late : List Field
+log_late = handed_on ++ (late_read ∷ M 1 5 7 ∷ [])
 
 pub reuse_races : (run_bytes log_fields (bytes_of log_d) fresh).verdict ≡ Raced 4 1 24
 unfolding row_of is_tag widths_of length_of field_bytes may_name field_of read_field is_valid cell_of is_unset invalidated after_free fresh write store command_of same_as_wanted check_by give free count_field
@@ -35,13 +35,13 @@ pub reuse_hidden : (run_plain_bytes log_fields (bytes_of log_d) fresh).verdict �
 unfolding row_of is_tag widths_of length_of field_bytes may_name field_of read_field is_valid cell_of is_unset invalidated after_free fresh write store command_of same_as_wanted check_by give free_plain count_field
 reuse_hidden = refl
 
-late_cells : given_by (parse log_fields (bytes_of late_reuse)).fields ≡ record { 0 = 5 } ∷ record { 0 = 5 } ∷ []
+late_cells : given_by (parse log_fields (bytes_of log_late)).fields ≡ record { 0 = 5 } ∷ record { 0 = 5 } ∷ []
 unfolding row_of is_tag widths_of length_of field_bytes may_name field_of read_field command_of
 late_cells = refl
 
-passing_cells : given_by (passing (parse log_fields (bytes_of late_reuse)).fields fresh) ≡ record { 0 = 5 } ∷ []
+passing_cells : given_by (passing (parse log_fields (bytes_of log_late)).fields fresh) ≡ record { 0 = 5 } ∷ []
 unfolding row_of is_tag widths_of length_of field_bytes may_name field_of read_field is_valid cell_of is_unset invalidated after_free fresh write store command_of same_as_wanted check_by give free count_field
 passing_cells = refl
 
-pub late_reuse_lem : Distinct (given_by (passing (parse log_fields (bytes_of late_reuse)).fields fresh)) × (Distinct (given_by (parse log_fields (bytes_of late_reuse)).fields) → ⊥)
-late_reuse_lem = (rw passing_cells (tt, tt), λ d. (rw late_cells at d).0.0 refl)
+pub late_reuse : Distinct (given_by (passing (parse log_fields (bytes_of log_late)).fields fresh)) × (Distinct (given_by (parse log_fields (bytes_of log_late)).fields) → ⊥)
+late_reuse = (rw passing_cells (tt, tt), λ d. (rw late_cells at d).0.0 refl)

@@ -16,7 +16,7 @@ use Rattle.rules.specs.Words.{after_free, invalidated, unset, word_at}
 use Rattle.rules.specs.State.{State, live, never_used, status_of, word, write}
 use Rattle.rules.specs.Effect.{change_own, change_word, free, give}
 use Rattle.rules.specs.Run.{live_count}
-use Rattle.theorems.proofs.Basics.{get_d_set, split}
+use Rattle.theorems.proofs.Basics.{get_or-set, split}
 use Rattle.theorems.proofs.Words.{after_free-unset, freed_at, invalidated-after_free}
 
 -- ---- the sizes of what is lent
@@ -40,10 +40,10 @@ eq_place (SelectorWord i) (SelectorWord j) = eqb i j
 
 pub word_write : (s : State) (x y : Place) (w : ℕ) → Sized s → Within x → word (write x w s) y ≡ cond (eq_place x y) w (word s y)
 unfolding write
-word_write s (PointerWord i) (PointerWord j) w z h = get_d_set s.pointers i j w unset (omega (arith, z.pointers))
+word_write s (PointerWord i) (PointerWord j) w z h = get_or-set s.pointers i j w unset (omega (arith, z.pointers))
 word_write s (PointerWord i) (SelectorWord j) w z h = refl
 word_write s (SelectorWord i) (PointerWord j) w z h = refl
-word_write s (SelectorWord i) (SelectorWord j) w z h = get_d_set s.selectors i j w unset (omega (arith, z.selectors))
+word_write s (SelectorWord i) (SelectorWord j) w z h = get_or-set s.selectors i j w unset (omega (arith, z.selectors))
 
 -- ---- selector j after both selectors of cell c are changed
 own_selector : (c j k : ℕ) (g : ℕ → ℕ) → cond (eqb (2 * c + 1) j) (g (2 * c + 1)) (cond (eqb (2 * c) j) (g (2 * c)) k) ≡ cond (eqb c (j / 2)) (g j) k
@@ -57,8 +57,8 @@ word-change_own : (f : ℕ → ℕ) (c j : ℕ) (l : List ℕ) → length l ≡ 
 word-change_own f c j l n h =
     let first : List ℕ = change_word f (2 * c) l in
     let other : word_at first (2 * c + 1) ≡ word_at l (2 * c + 1) = get_or-set_other l (2 * c) (2 * c + 1) (f (word_at l (2 * c))) unset (λ q. omega arith) in
-    get_d_set first (2 * c + 1) j (f (word_at first (2 * c + 1))) unset (rw length-set (omega arith))
-    ∙ rw other (ap (cond (eqb (2 * c + 1) j) (f (word_at l (2 * c + 1)))) (get_d_set l (2 * c) j (f (word_at l (2 * c))) unset (omega arith)) ∙ own_selector c j (word_at l j) (λ i. f (word_at l i)))
+    get_or-set first (2 * c + 1) j (f (word_at first (2 * c + 1))) unset (rw length-set (omega arith))
+    ∙ rw other (ap (cond (eqb (2 * c + 1) j) (f (word_at l (2 * c + 1)))) (get_or-set l (2 * c) j (f (word_at l (2 * c))) unset (omega arith)) ∙ own_selector c j (word_at l j) (λ i. f (word_at l i)))
 
 pub length-change_own : (f : ℕ → ℕ) (c : ℕ) (l : List ℕ) → length (change_own f c l) ≡ length l
 length-change_own f c l = length-set (set l _ _) _ _ ∙ length-set l _ _
@@ -82,14 +82,14 @@ cleared_at statuses c (SelectorWord j) w = cond (eqb (statuses c) never_used && 
 pub word-give : (s : State) (p c d : ℕ) (y : Place) → Sized s → p < 80 → c < 1024
     → word (give p c d s) y ≡ cond (eq_place (PointerWord p) y) c (cleared_at (status_of s) c y (word s y))
 unfolding give
-word-give s p c d (PointerWord i) z hp hc = get_d_set s.pointers p i c unset (omega (arith, z.pointers))
+word-give s p c d (PointerWord i) z hp hc = get_or-set s.pointers p i c unset (omega (arith, z.pointers))
 word-give s p c d (SelectorWord j) z hp hc = split (eqb (status_of s c) never_used)
     (λ e. rw e (word-change_own (λ w. unset) c j s.selectors z.selectors hc))
     (λ e. rw e refl)
 
 -- ---- statuses
 pub status_set : (s : State) (c v : ℕ) → Sized s → c < 1024 → (k : ℕ) → get_or (set s.status c v) k never_used ≡ cond (eqb c k) v (status_of s k)
-status_set s c v z h k = get_d_set s.status c k v never_used (omega (arith, z.status))
+status_set s c v z h k = get_or-set s.status c k v never_used (omega (arith, z.status))
 
 pub count_set : (l : List ℕ) (c v : ℕ) → c < length l → live_count (set l c v) + cond (eqb (get_or l c never_used) live) 1 0 ≡ live_count l + cond (eqb v live) 1 0
 count_set [] c v h = absurd (not-suc-le-zero h)

@@ -42,7 +42,7 @@ use Rattle.rules.specs.Plain.{Distinct, apply_plain, check_plain, free_plain, gi
 use Rattle.rules.proofs.Checks.{Clear, each_same}
 use Rattle.theorems.specs.Beside.{passing}
 use Rattle.theorems.specs.Renewed.{NewCells, field_at}
-use Rattle.theorems.proofs.Basics.{eqb_self, every_map, map-set, set_get_d, split}
+use Rattle.theorems.proofs.Basics.{eqb_self, every_map, map-set, set-get_or, split}
 use Rattle.theorems.proofs.Words.{cell-after_free, cell-cell, cell-invalidated, cell_small, cell-unset, freed_at, unset-cell, valid_below, valid-invalidated}
 use Rattle.theorems.proofs.States.{Sized, Within, cleared_at, eq_place, status_set, word-free, word-give, word_write}
 use Rattle.theorems.proofs.Passed.{looked, passed}
@@ -63,7 +63,7 @@ word_cells : (l : List ℕ) (i : ℕ) → word_at (map cell_of l) i ≡ cell_of 
 word_cells l i = subst (λ (d : ℕ). get_or (map cell_of l) i d ≡ cell_of (word_at l i)) cell-unset (get_or-map cell_of l i unset)
 
 cells-invalidated : (i : ℕ) (l : List ℕ) → map cell_of (change_word invalidated i l) ≡ map cell_of l
-cells-invalidated i l = map-set cell_of l i (invalidated (word_at l i)) ∙ set_get_d (map cell_of l) i unset (cell_of (invalidated (word_at l i))) (word_cells l i ∙ sym (cell-invalidated (word_at l i)))
+cells-invalidated i l = map-set cell_of l i (invalidated (word_at l i)) ∙ set-get_or (map cell_of l) i unset (cell_of (invalidated (word_at l i))) (word_cells l i ∙ sym (cell-invalidated (word_at l i)))
 
 cells-unset : (i : ℕ) (l : List ℕ) → map cell_of (change_word (λ w. unset) i l) ≡ change_word (λ w. unset) i (map cell_of l)
 cells-unset i l = map-set cell_of l i unset ∙ ap (set (map cell_of l) i) cell-unset
