@@ -1,136 +1,66 @@
 // The records on standard input: a log's length, 4 bytes with the low byte first, and the log.
-ghost use Rattle.std.specs.Prelude.{◌≤◌, min, length, ◌≡◌};
+ghost use Rattle.std.specs.Prelude.{◌≤◌, ◌≡◌, ℕ, length};
+ghost use Rattle.batch.specs.declared.input.Next.TheVariants.{Whole};
 
 use fields::Log;
-use std::io::{Error, Stdin};
-use streams::{Filled, Stop, is_full, read_into};
+use std::io::{Read, Result};
+use streams::{Stop, read_into};
 
 // How many bytes at a time are dropped.
 const CHUNK: usize = 4_096;
 
-// What standard input has next: a whole record, one that is cut short, nothing, or what could not be read.
-#[derive(Drop)]
+// What standard input has next: a whole record, with so many of the log's bytes in the buffer; one that is cut short; nothing.
+#[derive(Clone, Copy)]
 pub enum Next {
-    Whole,
+    Whole(usize),
     Cut,
     End,
-    Broken,
 }
 
-// What was read, and of a whole record how many of the log's bytes are in the buffer; of what could not be read, why.
-#[derive(Drop)]
-pub struct Record {
-    pub next: Next,
-    pub length: usize,
-    pub error: Option<Error>,
+// Whether there was as much as the bytes have room for.
+fn fill<R: Read>(input: &mut R, bytes: &mut [u8]) -> Result<bool> {
+    let filled = read_into(input, bytes);
+    filled.whole()?;
+    Ok(filled.stop.is_full())
 }
 
-fn least(a: usize, b: usize) -> usize
-    ensures { (result ≤ a) × ((result ≤ b) × (result ≡ min a b)) }
-{
-    if a < b { a } else { b }
-}
-
-fn two_bytes(low: u8, high: u8) -> usize
-    ensures { result ≤ 0xffff }
-{
-    (low as usize) + 256 * (high as usize)
-}
-
-fn four_bytes(low: usize, high: usize) -> usize
-    requires { (low ≤ 0xffff) × (high ≤ 0xffff) }
-{
-    low + 65_536 * high
-}
-
-// Reads so many bytes.
-fn fill(mut input: Stdin, bytes: &mut [u8], count: usize) -> Filled
-    requires { count ≤ length bytes.old }
-{
-    read_into(&mut input, &mut bytes[..count])
-}
-
-// Reads so many bytes and drops them.
-fn skip(input: Stdin, count: usize) -> Filled {
+// Reads so many bytes and drops them. Whether there were as many.
+fn skip<R: Read>(input: &mut R, count: usize) -> Result<bool> {
     let mut chunk = [0u8; CHUNK];
     let mut left = count;
     while 0 < left {
-        let part = least(left, CHUNK);
-        let read = fill(input, &mut chunk, part);
-        if !is_full(read.stop) {
-            return read;
+        let part = left.min(CHUNK);
+        if !fill(input, &mut chunk[..part])? {
+            return Ok(false);
         }
         left -= part;
     }
-    Filled {
-        length: count,
-        stop: Stop::Full,
-        error: None,
-    }
-}
-
-// What a record is whose head was read, by how reading the rest of it stopped.
-fn next_of(stop: Stop) -> Next {
-    match stop {
-        Stop::Full => Next::Whole,
-        Stop::Ended => Next::Cut,
-        Stop::Broken => Next::Broken,
-    }
+    Ok(true)
 }
 
 // A log of so many bytes. Of one that is too long the first byte too many is kept, and the rest is dropped.
-fn read_log(input: Stdin, bytes: &mut [u8], size: usize) -> Record
+fn read_log<R: Read>(input: &mut R, bytes: &mut [u8], size: usize) -> Result<Next>
     requires { length bytes.old ≡ 45057 }
-    ensures { result.length ≤ 45057 }
+    ensures { (n : ℕ) → result ≡ Ok (Whole n) → n ≤ 45057 }
 {
-    let length = least(size, Log::ROOM);
-    let kept = fill(input, bytes, length);
-    if !is_full(kept.stop) {
-        return Record {
-            next: next_of(kept.stop),
-            length: 0,
-            error: kept.error,
-        };
-    }
-    let dropped = skip(input, size - length);
-    Record {
-        next: next_of(dropped.stop),
-        length,
-        error: dropped.error,
+    let length = size.min(Log::ROOM);
+    if fill(input, &mut bytes[..length])? && skip(input, size - length)? {
+        Ok(Next::Whole(length))
+    } else {
+        Ok(Next::Cut)
     }
 }
 
-// What comes next where a head was not read whole: nothing, where the input ended before its first byte.
-fn next_after(stop: Stop, count: usize) -> Next {
-    match stop {
-        Stop::Full => Next::Whole,
-        Stop::Ended => {
-            if count == 0 {
-                return Next::End;
-            }
-            Next::Cut
-        }
-        Stop::Broken => Next::Broken,
-    }
-}
-
-pub fn read_record(mut input: Stdin, bytes: &mut [u8]) -> Record
+pub fn read_record<R: Read>(input: &mut R, bytes: &mut [u8]) -> Result<Next>
     requires { length bytes.old ≡ 45057 }
-    ensures { result.length ≤ 45057 }
+    ensures { (n : ℕ) → result ≡ Ok (Whole n) → n ≤ 45057 }
 {
-    let mut head = [0u8; 4];
-    let read = read_into(&mut input, &mut head);
-    let stop = read.stop;
-    if !is_full(stop) {
-        return Record {
-            next: next_after(stop, read.length),
-            length: 0,
-            error: read.error,
-        };
+    let mut size = [0u8; 4];
+    let head = read_into(input, &mut size);
+    match head.stop {
+        Stop::Full => read_log(input, bytes, u32::from_le_bytes(size) as usize),
+        Stop::Ended if head.length == 0 => Ok(Next::End),
+        Stop::Ended => Ok(Next::Cut),
+        Stop::Broken(why) => Err(why),
     }
-    read_log(
-        input,
-        bytes,
-        four_bytes(two_bytes(head[0], head[1]), two_bytes(head[2], head[3])),
-    )
 }

@@ -9,81 +9,51 @@ mod replay_column;
 
 ghost use Rattle.std.specs.Prelude.{◌≤◌, length};
 
-use console::{
-    Ends, ROOM, Target, end_line, put_all, put_verdict, say_unread, tell_failed, tell_whole,
-};
+use console::{Failure, finish};
 use fields::Log;
-use heap_column::put_heap;
+use heap_column::write_heap;
 use input::{Next, read_record};
-use lent::{heap_spilled, judge_poisoned, output_spilled};
-use replay_column::put_replay;
+use lent::Left;
+use replay_column::write_replay;
+use std::io;
+use std::io::{Read, Write};
 use std::process::ExitCode;
+use streams::{Line, write_line};
 
-// More records than any input has.
-const RECORDS: u64 = 0xffff_ffff_ffff_ffff;
-
-fn put_spilled(ends: Ends, text: &mut [u8; ROOM], at: usize, output: bool, heap: bool) -> usize {
-    if output || heap {
-        return put_all(ends, text, at, b" spilled");
-    }
-    at
-}
-
-// Whether the line was written.
-fn write_line(ends: Ends, log: &[u8]) -> bool
+fn write_record<W: Write + Drop>(output: W, log: &[u8]) -> io::Result<W>
     requires { length log.now ≤ 45057 }
 {
-    let mut output = [lent::BYTE; lent::OUTPUT];
-    let left = judge_poisoned(log, &mut output);
+    let mut replay = [lent::BYTE; lent::OUTPUT];
+    let left = Left::by(log, &mut replay);
     let verdict = left.verdict;
-    let mut text = [0u8; ROOM];
-    let mut at = put_verdict(ends, &mut text, 0, verdict);
-    at = put_replay(ends, &mut text, at, verdict, &output, log.len());
-    at = put_heap(ends, &mut text, at, &left);
-    at = put_spilled(
-        ends,
-        &mut text,
-        at,
-        output_spilled(verdict, &output, log.len()),
-        heap_spilled(&left),
-    );
-    end_line(ends, Target::Output, &mut text, at)
-}
-
-fn write_cut(ends: Ends) -> bool {
-    let mut text = [0u8; ROOM];
-    let at = put_all(ends, &mut text, 0, b"cut");
-    end_line(ends, Target::Output, &mut text, at)
-}
-
-// The end of an input that is cut short.
-fn end_cut(ends: Ends) -> ExitCode {
-    if write_cut(ends) {
-        return tell_whole();
+    let mut line = Line::new(output);
+    write!(line, "{verdict}\t")?;
+    write_replay(&mut line, &left, &replay[..log.len()])?;
+    write!(line, "\t")?;
+    write_heap(&mut line, &left)?;
+    if left.has_spilled_output(&replay, log.len()) || left.has_spilled_heap() {
+        write!(line, " spilled")?;
     }
-    tell_failed()
+    writeln!(line)?;
+    line.end()
+}
+
+// An input that is cut short ends with a line that says so.
+fn judge_all<R: Read, W: Write + Drop>(input: &mut R, mut output: W) -> Result<W, Failure> {
+    let mut bytes = [0u8; Log::ROOM];
+    for _ in 0..u64::MAX {
+        match read_record(input, &mut bytes).map_err(Failure::Input)? {
+            Next::Whole(length) => {
+                output = write_record(output, &bytes[..length]).map_err(Failure::Output)?;
+            }
+            Next::Cut => return write_line(output, "cut").map_err(Failure::Output),
+            Next::End => return Ok(output),
+        }
+    }
+    Err(Failure::Input(io::Error::other("too many records")))
 }
 
 fn main(rt: HostRuntime) -> ExitCode {
-    let ends = Ends::of(&rt);
-    let mut bytes = [0u8; Log::ROOM];
-    for _ in 0..RECORDS {
-        let record = read_record(rt.stdin(), &mut bytes);
-        let next = record.next;
-        let length = record.length;
-        match next {
-            Next::Whole => {
-                if !write_line(ends, &bytes[..length]) {
-                    return tell_failed();
-                }
-            }
-            Next::Cut => return end_cut(ends),
-            Next::End => return tell_whole(),
-            Next::Broken => {
-                say_unread(ends, record.error);
-                return tell_failed();
-            }
-        }
-    }
-    tell_failed()
+    let judged = judge_all(&mut rt.stdin(), rt.stdout());
+    finish(rt.stderr(), judged.map(|_| ()))
 }

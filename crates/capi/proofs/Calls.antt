@@ -11,7 +11,7 @@ use Rattle.judge.specs.Judges.{Judges}
 use Rattle.judge.specs.Replays.{Replays}
 use Rattle.rules.specs.declared.Tally.{Tally}
 use Rattle.rules.specs.declared.Verdict.{Verdict}
-use Rattle.rules.specs.Judging.{Judged}
+use Rattle.rules.specs.Judging.{Judged, lent}
 use Rattle.rules.specs.Replaying.{Replayed}
 use Rattle.capi.specs.Judging.{Tells, answer_places, has_room, judge_call, left, no_room, tally_in, tally_places, told}
 use Rattle.capi.specs.Replaying.{replay_call, replay_left}
@@ -29,7 +29,7 @@ module _ (log pointers selectors variables numbers status tally answer : List �
   judge_no_room h = rw h
 
   pub judge_told : has_room tally answer ≡ true → (before after : Tally) (verdict : Verdict) (returns : ℕ) (p' s' v' n' t' tally' answer' : List ℕ)
-      → before ≡ tally_in tally → Judges log pointers selectors variables numbers status before verdict after p' s' v' n' t'
+      → before ≡ tally_in tally → Judges log (lent pointers selectors variables numbers status before) verdict (lent p' s' v' n' t' after)
       → Tells verdict after tally answer returns tally' answer'
       → left returns p' s' v' n' t' tally' answer' ≡ judge_call log pointers selectors variables numbers status tally answer
   unfolding judge_call
@@ -43,7 +43,7 @@ module _ (log out pointers selectors variables numbers status tally answer : Lis
   replay_no_room h = rw h
 
   pub replay-told : has_room tally answer ≡ true → (before after : Tally) (verdict : Verdict) (returns : ℕ) (out' p' s' v' n' t' tally' answer' : List ℕ)
-      → before ≡ tally_in tally → Replays log out pointers selectors variables numbers status before verdict after out' p' s' v' n' t'
+      → before ≡ tally_in tally → Replays log out (lent pointers selectors variables numbers status before) verdict out' (lent p' s' v' n' t' after)
       → Tells verdict after tally answer returns tally' answer'
       → replay_left out' (left returns p' s' v' n' t' tally' answer') ≡ replay_call log out pointers selectors variables numbers status tally answer
   unfolding replay_call

@@ -6,13 +6,11 @@ use lib.ListN.{drop, length}
 use mathlib.Core.List.{List, [], ◌∷◌, ◌++◌}
 use mathlib.Core.Path.{◌≡◌, ap}
 use native.Mathlib.Omega.{arith}
+use Rattle.std.specs.Prelude.{Result, Ok, Err}
 use Rattle.fields.proofs.Passing.{either}
 use Rattle.fields.proofs.Writing.{length-field_bytes, length_most}
 use Rattle.fields.specs.declared.Field.{Field}
-use Rattle.fields.specs.declared.Read.{Read}
 use Rattle.fields.specs.declared.Refusal.{Refusal}
-use Rattle.fields.specs.declared.Written.{Written}
-use Rattle.fields.specs.declared.Written.TheVariants.{Bytes, Refused}
 use Rattle.fields.specs.Order.{Test, in_order}
 use Rattle.fields.specs.Read.{placed, read_field}
 use Rattle.fields.specs.Refusals.{number_of}
@@ -26,7 +24,7 @@ module _ (part : List ℕ) (place : ℕ) (field : List ℕ) where
   unfolding read_call
   read_short h = rw (lt-leb read_places (length field) h)
 
-  pub read_told_lem : read_places ≤ length field → (r : Read) → r ≡ placed place (read_field part) → read_told r field ≡ read_call part place field
+  pub read_told_lem : read_places ≤ length field → (r : Result (Field × ℕ) (Refusal × ℕ)) → r ≡ placed place (read_field part) → read_told r field ≡ read_call part place field
   unfolding read_call
   read_told_lem h r e = rw (le-leb read_places (length field) h, e)
 
@@ -40,28 +38,28 @@ module _ (field out answer : List ℕ) where
   unfolding write_call
   write_no_answer h k = rw (le-leb field_places (length field) h, lt-leb 1 (length answer) k)
 
-  pub write-told : field_places ≤ length field → 1 ≤ length answer → (f : Field) (w : Written) (out' : List ℕ) → f ≡ field_in field → writing w out' ≡ write_field f out → write_told w out' answer ≡ write_call field out answer
+  pub write-told : field_places ≤ length field → 1 ≤ length answer → (f : Field) (w : Result ℕ Refusal) (out' : List ℕ) → f ≡ field_in field → writing w out' ≡ write_field f out → write_told w out' answer ≡ write_call field out answer
   unfolding write_call
   write-told h k f w out' start wrote =
       rw (le-leb field_places (length field) h, le-leb 1 (length answer) k)
       (ap (λ (x : Writing). write_told x.answer x.output answer) (rw start at wrote))
 
-  pub write_bytes : (w : Written) (n : ℕ) (out' answer' : List ℕ) → w ≡ Bytes n → answer' ≡ front (n ∷ []) answer → write_told w out' answer ≡ write_call field out answer → write_left 0 out' answer' ≡ write_call field out answer
+  pub write_bytes : (w : Result ℕ Refusal) (n : ℕ) (out' answer' : List ℕ) → w ≡ Ok n → answer' ≡ front (n ∷ []) answer → write_told w out' answer ≡ write_call field out answer → write_left 0 out' answer' ≡ write_call field out answer
   write_bytes w n out' answer' e answered told = rw answered (rw e at told)
 
-  pub write-refused : (w : Written) (r : Refusal) (number : ℕ) (out' : List ℕ) → w ≡ Refused r → number ≡ number_of r → write_told w out' answer ≡ write_call field out answer → write_left number out' answer ≡ write_call field out answer
+  pub write-refused : (w : Result ℕ Refusal) (r : Refusal) (number : ℕ) (out' : List ℕ) → w ≡ Err r → number ≡ number_of r → write_told w out' answer ≡ write_call field out answer → write_left number out' answer ≡ write_call field out answer
   write-refused w r number out' e numbered told = rw numbered (rw e at told)
 
 -- ---- the number of bytes that an answer gives is at most that of the longest field
-abbrev bytes_in : Written → ℕ
-bytes_in (Bytes n) = n
-bytes_in (Refused r) = 0
+abbrev bytes_in : Result ℕ Refusal → ℕ
+bytes_in (Ok n) = n
+bytes_in (Err r) = 0
 
-checked : (n : ℕ) (out out' : List ℕ) (tests : List (Test Refusal)) → bytes_in (in_order (λ r. writing (Refused r) out) (writing (Bytes n) out') tests).answer ≤ n
+checked : (n : ℕ) (out out' : List ℕ) (tests : List (Test Refusal)) → bytes_in (in_order (λ r. writing (Err r) out) (writing (Ok n) out') tests).answer ≤ n
 checked n out out' [] = omega arith
 checked n out out' (t ∷ ts) = either (λ (w : Writing). bytes_in w.answer ≤ n) t.passes (checked n out out' ts) (omega arith)
 
-pub few_bytes : (f : Field) (out out' : List ℕ) (n : ℕ) → writing (Bytes n) out' ≡ write_field f out → n ≤ 13
+pub few_bytes : (f : Field) (out out' : List ℕ) (n : ℕ) → writing (Ok n) out' ≡ write_field f out → n ≤ 13
 unfolding write_field
 few_bytes f out out' n e =
     let same = ap (λ (x : Writing). bytes_in x.answer) e in

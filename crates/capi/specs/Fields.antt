@@ -1,13 +1,10 @@
 -- The calls that read and write one field. In a list a field is its tag, thread, first, second, third, cell and number; what is read
 -- has the byte offset after them, a refusal too.
 -- Both return 0 or the number of a refusal; 15 where a list is too short, and then nothing was looked at or touched. Assumes nothing.
-use Rattle.std.specs.Prelude.{ℕ, leb, get_or, length, set, cond, ◌&&◌, List, [], ◌∷◌, ◌++◌}
+use Rattle.std.specs.Prelude.{ℕ, leb, get_or, length, set, cond, ◌&&◌, List, [], ◌∷◌, ◌++◌, Result, Ok, Err}
 use Rattle.fields.specs.declared.Field.{Field}
-use Rattle.fields.specs.declared.Read.{Read}
-use Rattle.fields.specs.declared.Read.TheVariants as read
+use Rattle.fields.specs.declared.Refusal.{Refusal}
 use Rattle.fields.specs.declared.Refusal.TheVariants.{OutputTooShort}
-use Rattle.fields.specs.declared.Written.{Written}
-use Rattle.fields.specs.declared.Written.TheVariants as written
 use Rattle.fields.specs.Numbers.{numbers_of}
 use Rattle.fields.specs.Read.{placed, read_field}
 use Rattle.fields.specs.Refusals.{number_of}
@@ -48,9 +45,9 @@ pub record ReadLeft : Type 0 where
 abbrev pub read_left : ℕ → List ℕ → ReadLeft
 read_left returns field = record { returns = returns; field = field }
 
-abbrev pub read_told : Read → List ℕ → ReadLeft
-read_told (read.Got f offset) field = read_left 0 (front (list_of f ++ (offset ∷ [])) field)
-read_told (read.Refused r offset) field = read_left (number_of r) (set field field_places offset)
+abbrev pub read_told : Result (Field × ℕ) (Refusal × ℕ) → List ℕ → ReadLeft
+read_told (Ok (f, offset)) field = read_left 0 (front (list_of f ++ (offset ∷ [])) field)
+read_told (Err (r, offset)) field = read_left (number_of r) (set field field_places offset)
 
 unfoldable pub read_call : List ℕ → ℕ → List ℕ → ReadLeft
 read_call part place field = cond (leb read_places (length field)) (read_told (placed place (read_field part)) field) (read_left too_short field)
@@ -64,9 +61,9 @@ pub record WriteLeft : Type 0 where
 abbrev pub write_left : ℕ → List ℕ → List ℕ → WriteLeft
 write_left returns output answer = record { returns = returns; output = output; answer = answer }
 
-abbrev pub write_told : Written → List ℕ → List ℕ → WriteLeft
-write_told (written.Bytes n) output answer = write_left 0 output (front (n ∷ []) answer)
-write_told (written.Refused r) output answer = write_left (number_of r) output answer
+abbrev pub write_told : Result ℕ Refusal → List ℕ → List ℕ → WriteLeft
+write_told (Ok n) output answer = write_left 0 output (front (n ∷ []) answer)
+write_told (Err r) output answer = write_left (number_of r) output answer
 
 unfoldable pub write_call : List ℕ → List ℕ → List ℕ → WriteLeft
 write_call field output answer =

@@ -1,13 +1,11 @@
 // The calls that judge and replay a log.
+// Stay calls over slices, the board's and the heap's each apart: in C each slice is a pointer and a length.
 ghost use Rattle.std.specs.Prelude.{◌≡◌};
 ghost use Rattle.capi.specs.Judging.{judge_call, left};
 ghost use Rattle.capi.specs.Replaying.{replay_call, replay_left};
 
-use super::telling::{has_room, tally_in, tell};
-use judge::{judge_log, replay_log};
-
-// The tally or the answer is too short: nothing is looked at or touched.
-const NO_ROOM: u32 = 3;
+use super::telling::{NO_ROOM, has_room, tally_in, tell};
+use judge::{Buffers, judge_log, replay_log};
 
 #[unsafe(no_mangle)]
 pub extern "C" fn thawhazel_judge(
@@ -22,12 +20,18 @@ pub extern "C" fn thawhazel_judge(
 ) -> u32
     ensures { left result pointers.new selectors.new variables.new numbers.new status.new tally.new answer.new ≡ judge_call log.now pointers.old selectors.old variables.old numbers.old status.old tally.old answer.old }
 {
-    if has_room(tally, answer) {
-        let before = tally_in(tally);
-        let judged = judge_log(log, pointers, selectors, variables, numbers, status, before);
-        return tell(judged, tally, answer);
+    if !has_room(tally, answer) {
+        return NO_ROOM;
     }
-    NO_ROOM
+    let mut buffers = Buffers {
+        pointers,
+        selectors,
+        variables,
+        numbers,
+        status,
+    };
+    let judged = judge_log(log, &mut buffers, tally_in(tally));
+    tell(judged, tally, answer)
 }
 
 #[unsafe(no_mangle)]
@@ -44,12 +48,16 @@ pub extern "C" fn thawhazel_replay(
 ) -> u32
     ensures { replay_left out.new (left result pointers.new selectors.new variables.new numbers.new status.new tally.new answer.new) ≡ replay_call log.now out.old pointers.old selectors.old variables.old numbers.old status.old tally.old answer.old }
 {
-    if has_room(tally, answer) {
-        let before = tally_in(tally);
-        let judged = replay_log(
-            log, out, pointers, selectors, variables, numbers, status, before,
-        );
-        return tell(judged, tally, answer);
+    if !has_room(tally, answer) {
+        return NO_ROOM;
     }
-    NO_ROOM
+    let mut buffers = Buffers {
+        pointers,
+        selectors,
+        variables,
+        numbers,
+        status,
+    };
+    let judged = replay_log(log, out, &mut buffers, tally_in(tally));
+    tell(judged, tally, answer)
 }

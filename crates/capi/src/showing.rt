@@ -3,12 +3,12 @@ ghost use Rattle.std.specs.Prelude.{◌≡◌};
 ghost use Rattle.capi.specs.Showing.{show_call, show_left};
 
 use super::fronts::put_front;
-use super::single::DONE;
-use fields::Refusal;
-use rules::{Choice, Shown};
+use super::single::{DONE, TOO_SHORT};
+use rules::Choice;
 use show::find_field;
 
 // The field's place and its number of bytes.
+// Stay two numbers of a list: C lends it so.
 const PART: usize = 2;
 
 #[unsafe(no_mangle)]
@@ -16,14 +16,13 @@ pub extern "C" fn thawhazel_show(log: &[u8], number: u32, part: &mut [u32]) -> u
     ensures { show_left result part.new ≡ show_call log.now number part.old }
 {
     if part.len() < PART {
-        return Refusal::OutputTooShort.number() as u32;
+        return TOO_SHORT;
     }
     match find_field(log, log, Choice::Recording, number) {
-        Shown::Part(at, size) => {
-            let list = [at as u32, size as u32];
-            put_front(part, &list);
+        Ok(found) => {
+            put_front(part, &[found.at as u32, found.size as u32]);
             DONE
         }
-        Shown::Refused(why, _) => why.number() as u32,
+        Err((why, _)) => u32::from(why.number()),
     }
 }

@@ -9,21 +9,24 @@ use judge::Judged;
 use rules::{Printed, Tally, Verdict};
 
 // Fields done, mallocs done, cells live.
+// Stay numbers of a list: C lends it so.
 const TALLY: usize = 3;
 
+// What a call about a log returns.
+// Stay numbers: C gets them, by the names in include/thawhazel.h.
 const ACCEPTED: u32 = 0;
 
 const RACE: u32 = 1;
 
 const REFUSED: u32 = 2;
 
+// The tally or the answer is too short: nothing is looked at or touched.
+pub const NO_ROOM: u32 = 3;
+
 pub fn has_room(tally: &[u32], answer: &[u32]) -> bool
     ensures { result ≡ has_room tally.now answer.now }
 {
-    if tally.len() < TALLY {
-        return false;
-    }
-    Printed::NUMBERS <= answer.len()
+    TALLY <= tally.len() && Printed::NUMBERS <= answer.len()
 }
 
 pub fn tally_in(tally: &[u32]) -> Tally
@@ -54,19 +57,15 @@ fn put_numbers(verdict: Verdict, answer: &mut [u32])
     ensures { answer.new ≡ front (line_of verdict).numbers answer.old }
 {
     let printed = verdict.printed();
-    let numbers = printed.numbers;
-    let count = printed.count;
-    put_front(answer, &numbers[..count]);
+    put_front(answer, &printed.numbers[..printed.count]);
 }
 
 pub fn tell(judged: Judged, tally: &mut [u32], answer: &mut [u32]) -> u32
     requires { (3 ≤ length tally.old) × (4 ≤ length answer.old) }
     ensures { Tells judged.verdict judged.tally tally.old answer.old result tally.new answer.new }
 {
-    let verdict = judged.verdict;
     let after = judged.tally;
-    let counts = [after.fields, after.mallocs, after.live];
-    put_front(tally, &counts);
-    put_numbers(verdict, answer);
-    kind_of(verdict)
+    put_front(tally, &[after.fields, after.mallocs, after.live]);
+    put_numbers(judged.verdict, answer);
+    kind_of(judged.verdict)
 }

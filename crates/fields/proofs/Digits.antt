@@ -1,32 +1,43 @@
--- Numbers in bytes: the number that stands at a place of a list, and the stores that put one there.
+-- Numbers in bytes: read at a place of a list, and written one after the other.
 -- Assumes nothing.
-use mathlib.Core.List.{List, [], ◌∷◌, ◌++◌}
-use mathlib.Core.Path.{◌≡◌, refl, ap}
-use Prim.Native.Nat.{ℕ, zero, suc, ◌+◌, ◌-◌, ◌*◌, ◌/◌, ◌%◌, ◌≤◌, ◌<◌}
-use native.Mathlib.Nat.{add-suc, add-zero, suc-add}
+use mathlib.Core.Bool.{Bool, true, false, cond}
+use mathlib.Core.List.{List, [], ◌∷◌, ◌++◌, append_assoc}
+use mathlib.Core.Path.{◌≡◌, ◌∙◌, refl, ap, sym}
+use Prim.Native.Nat.{ℕ, zero, suc, ◌+◌, ◌/◌, ◌%◌, ◌≤◌, ◌<◌}
 use native.Mathlib.Omega.{arith}
-use lib.ListN.{length, length-append, get_or, take, drop, set}
-use lib.Seq.{drop-cons, sets}
-use Rattle.fields.specs.Bytes.{from_bytes, pack, to_bytes, total}
+use Rattle.std.proofs.Common.{append-nil}
+use lib.ListN.{length, length-append, get_or, take, drop}
+use lib.Seq.{drop-drop, drop_at, take_at}
+use Rattle.std.specs.Prelude.{slice_index}
+use Rattle.std.specs.Int.{from_le_bytes, to_le_bytes, w16, w32}
+use Rattle.fields.specs.Bytes.{bytes_if, from_bytes, pack, to_bytes, total}
+use Rattle.fields.specs.Rows.{width_if}
 
--- ---- read
-number_step : (l : List ℕ) (at width : ℕ) → at < length l → from_bytes (take (suc width) (drop at l)) ≡ get_or l at 0 + 256 * from_bytes (take width (drop (suc at) l))
-number_step l at width h = rw (drop-cons l at 0 h) refl
+-- ---- read, the first byte as it stands, and by the library's methods where a row may lack the number
+pub first_read : (l : List ℕ) → 0 < length l → get_or l 0 0 ≡ from_bytes (take 1 l)
+first_read [] h = absurd (omega arith)
+first_read (a ∷ l) h = omega arith
 
-pub byte_at : (l : List ℕ) (at : ℕ) → at < length l → from_bytes (take 1 (drop at l)) ≡ get_or l at 0
-byte_at l at h = omega (arith, number_step l at 0 h)
+pub one_read : (there : Bool) (l : List ℕ) → width_if there 1 ≤ length l → slice_index (bytes_if there 1 l) 0 ≡ from_bytes (take (width_if there 1) l)
+one_read false l h = refl
+one_read true [] h = absurd (omega arith)
+one_read true (a ∷ l) h = omega arith
 
-pub pair_at : (l : List ℕ) (at : ℕ) → at + 2 ≤ length l → from_bytes (take 2 (drop at l)) ≡ get_or l at 0 + 256 * get_or l (at + 1) 0
-pair_at l at h =
-    let next : at + 1 ≡ suc at = omega arith in
-    rw next (omega (arith, number_step l at 1 (omega arith), byte_at l (suc at) (omega arith)))
+pub two_read : (there : Bool) (l : List ℕ) → width_if there 2 ≤ length l → from_le_bytes w16 (bytes_if there 2 l) ≡ from_bytes (take (width_if there 2) l)
+two_read false l h = refl
+two_read true [] h = absurd (omega arith)
+two_read true (a ∷ []) h = absurd (omega arith)
+two_read true (a ∷ b ∷ l) h = omega arith
 
-pub quad_at : (l : List ℕ) (at : ℕ) → at + 4 ≤ length l → from_bytes (take 4 (drop at l)) ≡ from_bytes (take 2 (drop at l)) + 65536 * from_bytes (take 2 (drop (at + 2) l))
-quad_at l at h =
-    let next : at + 2 ≡ suc (suc at) = omega arith in
-    rw next (omega (arith, number_step l at 3 (omega arith), number_step l (suc at) 2 (omega arith), number_step l at 1 (omega arith), byte_at l (suc at) (omega arith)))
+pub four_read : (there : Bool) (l : List ℕ) → width_if there 4 ≤ length l → from_le_bytes w32 (bytes_if there 4 l) ≡ from_bytes (take (width_if there 4) l)
+four_read false l h = refl
+four_read true [] h = absurd (omega arith)
+four_read true (a ∷ []) h = absurd (omega arith)
+four_read true (a ∷ b ∷ []) h = absurd (omega arith)
+four_read true (a ∷ b ∷ c ∷ []) h = absurd (omega arith)
+four_read true (a ∷ b ∷ c ∷ d ∷ l) h = omega arith
 
--- ---- stored
+-- ---- written
 pub length_to_bytes : (width n : ℕ) → length (to_bytes width n) ≡ width
 length_to_bytes zero n = refl
 length_to_bytes (suc width) n = ap suc (length_to_bytes width (n / 256))
@@ -36,29 +47,53 @@ length-pack [] ns = refl
 length-pack (w ∷ ws) [] = rw (length-append (to_bytes w 0) (pack ws []), length_to_bytes w 0, length-pack ws []) refl
 length-pack (w ∷ ws) (n ∷ ns) = rw (length-append (to_bytes w n) (pack ws ns), length_to_bytes w n, length-pack ws ns) refl
 
-sets_append : (l xs ys : List ℕ) (i : ℕ) → sets l i (xs ++ ys) ≡ sets (sets l i xs) (i + length xs) ys
-sets_append l [] ys i = rw add-zero
-sets_append l (x ∷ xs) ys i = rw (add-suc, ← suc-add) (sets_append _ xs ys (suc i))
+-- the bytes of the library's methods are those of the definition, where the row has the number
+pub one_put : (there : Bool) (n : ℕ) → n < 256 → cond there (n ∷ []) [] ≡ to_bytes (width_if there 1) n
+one_put false n h = refl
+one_put true n h = let low : n % 256 ≡ n = omega arith in rw low refl
 
--- a store of a number's next byte, and then of the bytes that are left
-pub put_step : (l : List ℕ) (at width i rest : ℕ) → i < width
-    → sets (set l (at + i) (rest % 256)) (at + (i + 1)) (to_bytes (width - (i + 1)) (rest / 256)) ≡ sets l (at + i) (to_bytes (width - i) rest)
-put_step l at width i rest h =
-    let left : width - i ≡ suc (width - (i + 1)) = omega arith in
-    let next : at + (i + 1) ≡ suc (at + i) = omega arith in
-    rw (left, next) refl
+pub two_put : (there : Bool) (n : ℕ) → cond there (to_le_bytes w16 n) [] ≡ to_bytes (width_if there 2) n
+two_put false n = refl
+two_put true n = refl
 
-pub put_done : (l : List ℕ) (at width i rest : ℕ) → width ≤ i → sets l at (to_bytes (width - i) rest) ≡ l
-put_done l at width i rest h = let none : width - i ≡ 0 = omega arith in rw none refl
+pub four_put : (there : Bool) (n : ℕ) → cond there (to_le_bytes w32 n) [] ≡ to_bytes (width_if there 4) n
+four_put false n = refl
+four_put true n =
+    let third : n / 65536 % 256 ≡ n / 256 / 256 % 256 = omega arith in
+    let fourth : n / 16777216 % 256 ≡ n / 256 / 256 / 256 % 256 = omega arith in
+    rw (third, fourth) refl
 
--- a store of the next number, and then of those that are left
-pub pack_step : (l ws ns : List ℕ) (at k : ℕ) → k < length ws → k < length ns
-    → sets (sets l at (to_bytes (get_or ws k 0) (get_or ns k 0))) (at + get_or ws k 0) (pack (drop (k + 1) ws) (drop (k + 1) ns)) ≡ sets l at (pack (drop k ws) (drop k ns))
-pack_step l ws ns at k hw hn =
-    let next : k + 1 ≡ suc k = omega arith in
-    let w = get_or ws k 0 in
-    let n = get_or ns k 0 in
-    rw (next, drop-cons ws k 0 hw, drop-cons ns k 0 hn, sets_append l (to_bytes w n) (pack (drop (suc k) ws) (drop (suc k) ns)) at, length_to_bytes w n) refl
+-- one number more at the end
+pack_more : (ws ns : List ℕ) (w n : ℕ) → length ws ≡ length ns → pack (ws ++ w ∷ []) (ns ++ n ∷ []) ≡ pack ws ns ++ to_bytes w n
+pack_more [] [] w n h = append-nil (to_bytes w n)
+pack_more [] (m ∷ ns) w n h = absurd (omega arith)
+pack_more (v ∷ ws) [] w n h = absurd (omega arith)
+pack_more (v ∷ ws) (m ∷ ns) w n h = rw (pack_more ws ns w n (omega arith)) (sym (append_assoc (to_bytes v m) (pack ws ns) (to_bytes w n)))
 
-pub total_step : (ws : List ℕ) (k : ℕ) → k < length ws → total (drop k ws) ≡ get_or ws k 0 + total (drop (k + 1) ws)
-total_step ws k h = let next : k + 1 ≡ suc k = omega arith in rw (next, drop-cons ws k 0 h) refl
+total_more : (ws : List ℕ) (w : ℕ) → total (ws ++ w ∷ []) ≡ total ws + w
+total_more [] w = omega arith
+total_more (v ∷ ws) w = omega (arith, total_more ws w)
+
+-- an output whose front, up to a place, holds the numbers put so far; the rest of it is as it was
+pub record Holds (out old ws ns : List ℕ) (at : ℕ) : Type 0 where
+  pub all : out ≡ pack ws ns ++ drop (total ws) old
+  pub place : at ≡ total ws
+  pub pairs : length ws ≡ length ns
+
+pub none_put : (old : List ℕ) → Holds old old [] [] 0
+none_put old = record { all = refl; place = refl; pairs = refl }
+
+pub put_next : (old out out' ws ns bytes : List ℕ) (at place w n : ℕ) → Holds out old ws ns at → place ≡ at + w
+    → out' ≡ take at out ++ bytes ++ drop place out → bytes ≡ to_bytes w n → Holds out' old (ws ++ w ∷ []) (ns ++ n ∷ []) place
+put_next old out out' ws ns bytes at place w n h there stored e =
+    let front = pack ws ns in
+    let rest = drop (total ws) old in
+    let size = length-pack ws ns in
+    record {
+      all =
+          stored
+          ∙ rw (h.all, e, there, h.place, total_more ws w, pack_more ws ns w n h.pairs, sym (drop-drop w (total ws) (front ++ rest)), take_at front rest (total ws) size, drop_at front rest (total ws) size)
+          (ap (λ (r : List ℕ). (front ++ to_bytes w n) ++ r) (drop-drop w (total ws) old));
+      place = rw (total_more ws w) (omega (arith, h.place));
+      pairs = rw (length-append ws (w ∷ []), length-append ns (n ∷ []), h.pairs) refl;
+    }

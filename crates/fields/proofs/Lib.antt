@@ -1,6 +1,5 @@
 -- What is proved of one field, beside the functions' own proofs.
 -- Assumes nothing.
-pub mod Lists
 pub mod Passing
 pub mod Digits
 pub mod Framing

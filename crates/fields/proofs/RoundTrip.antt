@@ -13,13 +13,13 @@ use Rattle.fields.specs.declared.rows.Slot.{Slot}
 use Rattle.fields.specs.declared.rows.Slot.TheVariants.{Absent, Pointer, Data, Selector}
 use Rattle.fields.specs.declared.Field.{Field}
 use Rattle.fields.specs.declared.Refusal.{Refusal}
-use Rattle.fields.specs.declared.Written.TheVariants.{Bytes}
+use Rattle.std.specs.Prelude.{Ok, Err}
 use Rattle.fields.specs.Every.{AreBytes, Every}
 use Rattle.fields.specs.Bytes.{pack, to_bytes, total, unpack}
 use Rattle.fields.specs.Rows.{is_present, is_tag, length_of, row_of, width_if, widths_of}
 use Rattle.fields.specs.Numbers.{Held, field_with, itself, numbers_of, present}
 use Rattle.fields.specs.Checks.{is_cell, is_named, is_selected, value_checks}
-use Rattle.fields.specs.Read.{Got, Refused, field_of, framing_checks, read_field, tag_in, value_in}
+use Rattle.fields.specs.Read.{field_of, framing_checks, read_field, tag_in, value_in}
 use Rattle.fields.specs.Write.{Writing, field_bytes, write_field, writing, writing_checks}
 use Rattle.fields.proofs.Digits.{length-pack}
 use Rattle.fields.proofs.Packing.{Fit, cap, fit_unpack, pack-unpack, unpack-pack}
@@ -35,11 +35,11 @@ pub record Readable (f : Field) : Type 0 where
 
 -- ---- written, then read
 read_whole : (x y z : ℕ) (v : List ℕ) (f : Field) → is_tag x ≡ true → y + 256 * z ≡ length_of x → length_of x ≤ length v
-    → field_of x v ≡ f → Every Passes (value_checks (row_of x) f) → read_field (x ∷ y ∷ z ∷ v) ≡ Got f
+    → field_of x v ≡ f → Every Passes (value_checks (row_of x) f) → read_field (x ∷ y ∷ z ∷ v) ≡ Ok f
 unfolding read_field
 read_whole x y z v f known told there field right =
     rw field
-    (all_pass Refused (Got f) (framing_checks (x ∷ y ∷ z ∷ v) ++ value_checks (row_of x) f)
+    (all_pass Err (Ok f) (framing_checks (x ∷ y ∷ z ∷ v) ++ value_checks (row_of x) f)
     (every_join Passes (framing_checks (x ∷ y ∷ z ∷ v)) (value_checks (row_of x) f)
     (le-leb 3 (length (x ∷ y ∷ z ∷ v)) (omega arith), (known, (eq-eqb (y + 256 * (z + 256 * 0)) (length_of x) (omega arith), (le-leb (length_of x) (length v) there, tt))))
     right))
@@ -55,7 +55,7 @@ bytes_shape f known =
     let high : length_of f.tag / 256 % 256 ≡ 0 = omega arith in
     rw (tag, low, high) refl
 
-pub there : (f : Field) (r : List ℕ) → Readable f → read_field (field_bytes f ++ r) ≡ Got f
+pub there : (f : Field) (r : List ℕ) → Readable f → read_field (field_bytes f ++ r) ≡ Ok f
 unfolding field_of length_of
 there f r R =
     let ws = widths_of (row_of f.tag) in
@@ -90,11 +90,11 @@ back_at x y z v b framed right =
       rw (sym (drop-drop (total ws) 3 (x ∷ y ∷ z ∷ v)), tag, low, high, numbers_read x v, pack-unpack ws v b.1.1.1 h, take-append-drop (total ws) v) refl,
     )
 
-pub back : (s : List ℕ) (f : Field) → AreBytes s → read_field s ≡ Got f → Readable f × (s ≡ field_bytes f ++ drop (3 + length_of f.tag) s)
+pub back : (s : List ℕ) (f : Field) → AreBytes s → read_field s ≡ Ok f → Readable f × (s ≡ field_bytes f ++ drop (3 + length_of f.tag) s)
 unfolding read_field Back
 back s f b e =
-    let p = all_passed Refused (Got (field_of (tag_in s) (value_in s))) (framing_checks s ++ value_checks (row_of (tag_in s)) (field_of (tag_in s) (value_in s))) (Got f) (λ r q. let z : ◌≡◌ {A = ℕ} 0 1 = cc in omega arith) e in
-    let g : Got (field_of (tag_in s) (value_in s)) ≡ Got f = p.1 in
+    let p = all_passed Err (Ok (field_of (tag_in s) (value_in s))) (framing_checks s ++ value_checks (row_of (tag_in s)) (field_of (tag_in s) (value_in s))) (Ok f) (λ r q. let z : ◌≡◌ {A = ℕ} 0 1 = cc in omega arith) e in
+    let g : Ok (field_of (tag_in s) (value_in s)) ≡ Ok f = p.1 in
     let field : field_of (tag_in s) (value_in s) ≡ f = cc in
     let cut = every_cut Passes (framing_checks s) (value_checks (row_of (tag_in s)) (field_of (tag_in s) (value_in s))) p.0 in
     subst (Back s) field (by s b cut.0 cut.1)
@@ -109,8 +109,8 @@ back s f b e =
     by (x ∷ y ∷ z ∷ v) b p q = back_at x y z v b p q
 
 -- what reads as a field writes back to the very bytes that were read, in any output with room for them
-pub read_then_written : (s out : List ℕ) (f : Field) → AreBytes s → read_field s ≡ Got f → 3 + length_of f.tag ≤ length out
-    → write_field f out ≡ writing (Bytes (3 + length_of f.tag)) (take (3 + length_of f.tag) s ++ drop (3 + length_of f.tag) out)
+pub read_then_written : (s out : List ℕ) (f : Field) → AreBytes s → read_field s ≡ Ok f → 3 + length_of f.tag ≤ length out
+    → write_field f out ≡ writing (Ok (3 + length_of f.tag)) (take (3 + length_of f.tag) s ++ drop (3 + length_of f.tag) out)
 read_then_written s out f b e room =
     let n = length-field_bytes f in
     let p = back s f b e in
@@ -206,17 +206,17 @@ readable_itself f h known right =
       right = subst (Every Passes) (sym (checks_itself f)) right;
     }
 
-not-refused : (f : Field) (out after : List ℕ) (n : ℕ) (r : Refusal) → refused f out r ≡ writing (Bytes n) after → ⊥
+not-refused : (f : Field) (out after : List ℕ) (n : ℕ) (r : Refusal) → refused f out r ≡ writing (Ok n) after → ⊥
 not-refused f out after n r e =
     let answers = ap (λ (w : Writing). w.answer) e in
     let z : ◌≡◌ {A = ℕ} 0 1 = cc in
     omega arith
 
 -- every writable field reads back as itself
-pub written_then_read : (f : Field) (out after : List ℕ) (n : ℕ) → Held f → write_field f out ≡ writing (Bytes n) after → read_field after ≡ Got (itself f)
+pub written_then_read : (f : Field) (out after : List ℕ) (n : ℕ) → Held f → write_field f out ≡ writing (Ok n) after → read_field after ≡ Ok (itself f)
 unfolding write_field
 written_then_read f out after n h e =
-    let p = all_passed (refused f out) (wrote f out) (writing_checks f (length out)) (writing (Bytes n) after) (not-refused f out after n) e in
+    let p = all_passed (refused f out) (wrote f out) (writing_checks f (length out)) (writing (Ok n) after) (not-refused f out after n) e in
     let bytes : field_bytes f ++ drop (length (field_bytes f)) out ≡ after = ap (λ (w : Writing). w.output) p.1 in
     let checks = every_cut Passes (value_checks (row_of f.tag) f) (room_test f out) p.0.1 in
     let rest = drop (length (field_bytes f)) out in

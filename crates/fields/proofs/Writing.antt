@@ -2,23 +2,19 @@
 -- Assumes nothing.
 use mathlib.Core.Bool.{true, false, Bool}
 use mathlib.Core.List.{List, [], ◌∷◌, ◌++◌}
-use mathlib.Core.Path.{◌≡◌, sym, ◌∙◌}
+use mathlib.Core.Path.{◌≡◌, refl, sym, ◌∙◌}
 use Prim.Native.Nat.{ℕ, ◌+◌, ◌≤◌, ◌<◌}
-use native.Mathlib.Nat.{zero-add}
 use native.Mathlib.Omega.{arith}
 use borrow.Author.Tests.{le-leb, lt-leb}
 use lib.Dec.{leb}
 use lib.ListN.{length, drop}
-use lib.Seq.{sets, sets-eq}
 use Rattle.fields.specs.declared.rows.Row.{Row}
 use Rattle.fields.specs.declared.Field.{Field}
 use Rattle.fields.specs.declared.Refusal.{Refusal}
 use Rattle.fields.specs.declared.Refusal.TheVariants.{OutputTooShort, UnknownTag}
-use Rattle.fields.specs.declared.Written.TheVariants.{Bytes, Refused}
-use Rattle.fields.specs.declared.checks.Checked.{Checked}
-use Rattle.fields.specs.declared.checks.Checked.TheVariants.{Passed, Failed}
+use Rattle.std.specs.Prelude.{Result, Ok, Err, ⊤}
 use Rattle.fields.specs.Every.{Every}
-use Rattle.fields.specs.Bytes.{pack}
+use Rattle.fields.specs.Bytes.{pack, total}
 use Rattle.fields.specs.Order.{Test, in_order, test}
 use Rattle.fields.specs.Rows.{is_present, is_tag, length_of, row_of, width_if, widths_of}
 use Rattle.fields.specs.Numbers.{numbers_of}
@@ -43,24 +39,24 @@ length_most tag =
 
 module _ (f : Field) (out : List ℕ) where
   abbrev pub refused : Refusal → Writing
-  refused r = writing (Refused r) out
+  refused r = writing (Err r) out
 
   abbrev pub room_test : List (Test Refusal)
   room_test = test (leb (length (field_bytes f)) (length out)) OutputTooShort ∷ []
 
   abbrev pub wrote : Writing
-  wrote = writing (Bytes (length (field_bytes f))) (field_bytes f ++ drop (length (field_bytes f)) out)
+  wrote = writing (Ok (length (field_bytes f))) (field_bytes f ++ drop (length (field_bytes f)) out)
 
   -- after the checks of the value
-  abbrev pub settled : Checked → Writing
-  settled Passed = in_order refused wrote room_test
-  settled (Failed r) = refused r
+  abbrev pub settled : Result ⊤ Refusal → Writing
+  settled (Ok _) = in_order refused wrote room_test
+  settled (Err r) = refused r
 
-  pub write_checked : (r : Row) (k : Checked) → is_tag f.tag ≡ true → r ≡ row_of f.tag → k ≡ in_order Failed Passed (value_checks r f) → settled k ≡ write_field f out
+  pub write_checked : (r : Row) (k : Result ⊤ Refusal) → is_tag f.tag ≡ true → r ≡ row_of f.tag → k ≡ in_order Err (Ok tt) (value_checks r f) → settled k ≡ write_field f out
   unfolding write_field
   write_checked r k known row check =
       rw (known, check, row)
-      (in_order_map settled Failed Passed (value_checks (row_of f.tag) f) ∙ sym (in_order_append refused wrote (value_checks (row_of f.tag) f) room_test))
+      (in_order_map settled Err (Ok tt) (value_checks (row_of f.tag) f) ∙ sym (in_order_append refused wrote (value_checks (row_of f.tag) f) room_test))
 
   -- a field that passes every check is written
   pub writes : is_tag f.tag ≡ true → Every Passes (value_checks (row_of f.tag) f) → length (field_bytes f) ≤ length out → write_field f out ≡ wrote
@@ -73,12 +69,17 @@ module _ (f : Field) (out : List ℕ) where
   unfolding write_field
   write_unknown e = rw e
 
-  pub room_short : length out < 3 + length_of f.tag → refused OutputTooShort ≡ settled Passed
+  pub room_short : length out < 3 + length_of f.tag → refused OutputTooShort ≡ settled (Ok tt)
   room_short h = rw (lt-leb (length (field_bytes f)) (length out) (omega (arith, length-field_bytes f)))
 
-  pub room_enough : (r : Row) (n : ℕ) (l : List ℕ) → r ≡ row_of f.tag → n ≡ length_of f.tag → 3 + n ≤ length out
-      → l ≡ sets out 0 (pack (1 ∷ 2 ∷ widths_of r) (f.tag ∷ n ∷ numbers_of f)) → writing (Bytes (3 + n)) l ≡ settled Passed
+  put_bytes : (r : Row) (n : ℕ) (l : List ℕ) → r ≡ row_of f.tag → n ≡ length_of f.tag
+      → l ≡ pack (1 ∷ 2 ∷ widths_of r) (f.tag ∷ n ∷ numbers_of f) ++ drop (total (1 ∷ 2 ∷ widths_of r)) out → l ≡ field_bytes f ++ drop (length (field_bytes f)) out
   unfolding field_bytes
+  put_bytes r n l row size put = rw (put, row, size, ← length-pack (1 ∷ 2 ∷ widths_of (row_of f.tag)) (f.tag ∷ length_of f.tag ∷ numbers_of f)) refl
+
+  pub room_enough : (r : Row) (n : ℕ) (l : List ℕ) → r ≡ row_of f.tag → n ≡ length_of f.tag → 3 + n ≤ length out
+      → l ≡ pack (1 ∷ 2 ∷ widths_of r) (f.tag ∷ n ∷ numbers_of f) ++ drop (total (1 ∷ 2 ∷ widths_of r)) out → writing (Ok (3 + n)) l ≡ settled (Ok tt)
   room_enough r n l row size h put =
       let m = length-field_bytes f in
-      rw (put, row, size, le-leb (length (field_bytes f)) (length out) (omega arith), sets-eq (field_bytes f) out 0 (omega arith), zero-add, m)
+      let long : 3 + n ≡ length (field_bytes f) = omega arith in
+      rw (put_bytes r n l row size put, long, le-leb (length (field_bytes f)) (length out) (omega arith)) refl

@@ -1,6 +1,6 @@
 -- The checks 7 to 10 of a field's numbers, by its row.
 -- Assumes nothing.
-use Rattle.std.specs.Prelude.{ℕ, ◌+◌, ◌*◌, Bool, true, false, cond, ◌&&◌, ◌||◌, List, [], ◌∷◌, ltb, leb}
+use Rattle.std.specs.Prelude.{ℕ, ◌+◌, ◌*◌, ◌<◌, ◌≡◌, Bool, true, false, cond, ◌&&◌, ◌||◌, List, [], ◌∷◌, ltb, leb}
 use Rattle.fields.specs.declared.rows.Slot.{Slot}
 use Rattle.fields.specs.declared.rows.Slot.TheVariants.{Absent, Pointer, Data, Selector}
 use Rattle.fields.specs.declared.rows.Row.{Row}
@@ -31,6 +31,10 @@ is_selected Selector x = ltb x selectors
 
 abbrev pub every_slot : (Slot → ℕ → Bool) → Row → Field → Bool
 every_slot right r f = right r.0 f.first && (right r.1 f.second && right r.2 f.third)
+
+-- what a call of a slot and a number may answer is what a function says of them
+abbrev pub Computes : (Slot → ℕ → Bool → Type 0) → (Slot → ℕ → Bool) → Type 0
+Computes answers right = (slot : Slot) (x : ℕ) (r : Bool) → x < 256 → answers slot x r → r ≡ right slot x
 
 abbrev pub is_cell : Bool → ℕ → Bool
 is_cell there c = cond there (ltb c cells) true

@@ -7,6 +7,7 @@ mod frame;
 mod numbers;
 mod reader;
 mod rows;
+mod short;
 mod writer;
 
 ghost use Rattle.std.specs.Prelude.{◌≡◌};
@@ -15,9 +16,11 @@ ghost use Rattle.fields.specs.Refusals.{number_of};
 
 pub use reader::read_field;
 pub use rows::{Row, Slot, value_length};
+pub use short::ShortLog;
 pub use writer::write_field;
 
 // A log as a program holds it: its bytes, of which the first `length` count.
+// Stays bytes with a length beside them: memory is fixed here, so there is no Vec.
 #[derive(Clone, Copy)]
 pub struct Log {
     pub bytes: [u8; Log::ROOM],
@@ -54,6 +57,7 @@ impl RecordedCell {
 
 // A field: its tag and thread, and the numbers of its tag's row in their order. Of a field that was read, those that the row
 // lacks are 0; of one that is written, they are ignored.
+// The tag stays a number: the writer takes any, and refuses one that the table lacks.
 #[derive(Clone, Copy)]
 pub struct Field {
     pub tag: u8,
@@ -77,25 +81,25 @@ impl Field {
     pub const SELECTORS: u8 = 2;
 }
 
-// Why a log, a field or a buffer is refused, in the order of the numbers of document 01 and of the orders.
+// Why a log, a field or a buffer is refused, by the numbers of document 01 and of the orders.
 #[derive(Clone, Copy)]
 pub enum Refusal {
-    LogTooLong,
-    BufferTooShort,
-    TooManyFields,
-    CutShort,
-    UnknownTag,
-    WrongLength,
-    UnknownThread,
-    ForeignVariable,
-    UnknownSelector,
-    UnknownCell,
-    TooManyMallocs,
-    UnsetPointer,
-    LiveCell,
-    AssertionFails,
-    OutputTooShort,
-    FieldNotReached,
+    LogTooLong = 1,
+    BufferTooShort = 2,
+    TooManyFields = 3,
+    CutShort = 4,
+    UnknownTag = 5,
+    WrongLength = 6,
+    UnknownThread = 7,
+    ForeignVariable = 8,
+    UnknownSelector = 9,
+    UnknownCell = 10,
+    TooManyMallocs = 11,
+    UnsetPointer = 12,
+    LiveCell = 13,
+    AssertionFails = 14,
+    OutputTooShort = 15,
+    FieldNotReached = 16,
 }
 
 impl Refusal {
@@ -103,37 +107,6 @@ impl Refusal {
     pub fn number(self) -> u8
         ensures { result ≡ number_of self }
     {
-        match self {
-            Refusal::LogTooLong => 1,
-            Refusal::BufferTooShort => 2,
-            Refusal::TooManyFields => 3,
-            Refusal::CutShort => 4,
-            Refusal::UnknownTag => 5,
-            Refusal::WrongLength => 6,
-            Refusal::UnknownThread => 7,
-            Refusal::ForeignVariable => 8,
-            Refusal::UnknownSelector => 9,
-            Refusal::UnknownCell => 10,
-            Refusal::TooManyMallocs => 11,
-            Refusal::UnsetPointer => 12,
-            Refusal::LiveCell => 13,
-            Refusal::AssertionFails => 14,
-            Refusal::OutputTooShort => 15,
-            Refusal::FieldNotReached => 16,
-        }
+        self as u8
     }
-}
-
-// What one field at the front of a part reads as, with the place of the part in the log: the field's byte offset.
-#[derive(Clone, Copy)]
-pub enum Read {
-    Got(Field, u32),
-    Refused(Refusal, u32),
-}
-
-// What writing one field did: so many bytes were written, or none.
-#[derive(Clone, Copy)]
-pub enum Written {
-    Bytes(usize),
-    Refused(Refusal),
 }

@@ -17,6 +17,7 @@ pub enum Slot {
 #[derive(Clone, Copy)]
 pub struct Row(pub Slot, pub Slot, pub Slot, pub bool, pub bool);
 
+// The two flags stay: with these names a row of `row_of` reads as its line of the document's table does.
 const CELL: bool = true;
 
 const NUMBER: bool = true;
@@ -35,10 +36,7 @@ impl Row {
 pub fn is_tag(tag: u8) -> bool
     ensures { result ≡ is_tag tag }
 {
-    if tag == 0 {
-        return false;
-    }
-    (tag as usize) < Row::TAGS
+    tag != 0 && usize::from(tag) < Row::TAGS
 }
 
 // What the value of each tag holds. A match, for a constant table of structs would be built anew at each call.
@@ -70,22 +68,18 @@ pub fn row_of(tag: u8) -> Row
 pub fn value_length(tag: u8) -> u8
     ensures { result ≡ length_of tag }
 {
-    let at = tag as usize;
+    let at = usize::from(tag);
     if at < Row::TAGS {
-        return Row::LENGTHS[at];
+        Row::LENGTHS[at]
+    } else {
+        Row::LENGTHS[0]
     }
-    Row::LENGTHS[0]
 }
 
 pub fn is_present(slot: Slot) -> bool
     ensures { result ≡ is_present slot }
 {
-    match slot {
-        Absent => false,
-        Pointer => true,
-        Data => true,
-        Selector => true,
-    }
+    !matches!(slot, Absent)
 }
 
 pub fn slot_width(slot: Slot) -> usize
@@ -97,8 +91,5 @@ pub fn slot_width(slot: Slot) -> usize
 pub fn width_if(there: bool, width: usize) -> usize
     ensures { result ≡ width_if there width }
 {
-    if there {
-        return width;
-    }
-    0
+    if there { width } else { 0 }
 }

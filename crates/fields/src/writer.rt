@@ -1,90 +1,64 @@
 // Writing one field at the front of an output.
 
-ghost use Rattle.std.specs.Prelude.{◌∷◌, ◌≡◌, ◌+◌, ◌≤◌, length};
-ghost use Rattle.std.proofs.lemmas.List.Edits.{sets};
-ghost use Rattle.fields.specs.Bytes.{pack, to_bytes, total};
+ghost use Rattle.std.specs.Prelude.{◌∷◌, ◌++◌, ◌≡◌, ◌+◌, ◌≤◌, [], cond, drop, length, take};
+ghost use Rattle.fields.specs.Bytes.{pack, total};
 ghost use Rattle.fields.specs.Numbers.{numbers_of};
-ghost use Rattle.fields.specs.Rows.{widths_of};
+ghost use Rattle.fields.specs.Rows.{width_if, widths_of};
 ghost use Rattle.fields.specs.Write.{write_field, writing};
 
-use super::checks::{Checked, check_value};
-use super::rows::{Row, is_tag, row_of, slot_width, value_length, width_if};
-use super::{Field, Refusal, Written};
+use super::checks::check_value;
+use super::rows::{Row, is_present, is_tag, row_of, value_length};
+use super::{Field, Refusal};
 
-// The numbers of a whole field: tag, length, thread, three slots, cell, number.
-const NUMBERS: usize = 8;
-
-// The low bytes of a number, as many as its width, low byte first.
-fn put(out: &mut [u8], at: usize, width: usize, number: u32)
-    requires { at + width ≤ length out.old }
-    ensures { out.new ≡ sets out.old at (to_bytes width number) }
+// A number's bytes at a place, where its row has the number; and the place after them.
+fn put<const N: usize>(out: &mut [u8], at: usize, there: bool, bytes: [u8; N]) -> usize
+    requires { at + width_if there N ≤ length out.old }
+    ensures place { result ≡ at + width_if there N }
+    ensures stored { out.new ≡ take at out.old ++ cond there bytes.entry [] ++ drop result out.old }
 {
-    let mut rest = number;
-    for i in 0..width {
-        out[at + i] = (rest % 256) as u8;
-        rest = rest / 256;
+    if !there {
+        return at;
     }
-}
-
-// Numbers of the given widths, one after the other from the front.
-fn put_all(out: &mut [u8], widths: [usize; NUMBERS], numbers: [u32; NUMBERS])
-    requires { total widths ≤ length out.old }
-    ensures { out.new ≡ sets out.old 0 (pack widths numbers) }
-{
-    let mut at = 0;
-    for k in 0..NUMBERS {
-        put(out, at, widths[k], numbers[k]);
-        at += widths[k];
-    }
+    out[at..at + N].copy_from_slice(&bytes);
+    at + N
 }
 
 // A field's bytes, by its row, at the front of an output that has room for them.
+#[tactic(auto, unfolding(crate::specs::Rows::widths_of))]
 fn put_field(row: Row, field: Field, bytes: u8, out: &mut [u8])
     requires { 3 + total (widths_of row) ≤ length out.old }
-    ensures { out.new ≡ sets out.old 0 (pack (1 ∷ 2 ∷ widths_of row) (field.tag ∷ bytes ∷ numbers_of field)) }
+    ensures { out.new ≡ pack (1 ∷ 2 ∷ widths_of row) (field.tag ∷ bytes ∷ numbers_of field) ++ drop (total (1 ∷ 2 ∷ widths_of row)) out.old }
 {
     let Row(first, second, third, cell, number) = row;
-    let widths = [
-        1,
-        2,
-        1,
-        slot_width(first),
-        slot_width(second),
-        slot_width(third),
-        width_if(cell, 2),
-        width_if(number, 4),
-    ];
-    let numbers = [
-        field.tag as u32,
-        bytes as u32,
-        field.thread as u32,
-        field.first as u32,
-        field.second as u32,
-        field.third as u32,
-        field.cell.0 as u32,
-        field.number,
-    ];
-    put_all(out, widths, numbers);
+    let length_at = put(out, 0, true, field.tag.to_le_bytes());
+    let thread_at = put(out, length_at, true, u16::from(bytes).to_le_bytes());
+    let first_at = put(out, thread_at, true, field.thread.to_le_bytes());
+    let second_at = put(out, first_at, is_present(first), field.first.to_le_bytes());
+    let third_at = put(
+        out,
+        second_at,
+        is_present(second),
+        field.second.to_le_bytes(),
+    );
+    let cell_at = put(out, third_at, is_present(third), field.third.to_le_bytes());
+    let number_at = put(out, cell_at, cell, field.cell.0.to_le_bytes());
+    put(out, number_at, number, field.number.to_le_bytes());
 }
 
 // The field's header and value at the front of the output, whose rest keeps its bytes. A refusal leaves it untouched.
-pub fn write_field(field: Field, out: &mut [u8]) -> Written
+pub fn write_field(field: Field, out: &mut [u8]) -> Result<usize, Refusal>
     ensures { writing result out.new ≡ write_field field out.old }
 {
-    if is_tag(field.tag) {
-        let row = row_of(field.tag);
-        match check_value(row, field) {
-            Checked::Passed => {
-                let bytes = value_length(field.tag);
-                let room = Field::HEADER + (bytes as usize);
-                if out.len() < room {
-                    return Written::Refused(Refusal::OutputTooShort);
-                }
-                put_field(row, field, bytes, out);
-                return Written::Bytes(room);
-            }
-            Checked::Failed(why) => return Written::Refused(why),
-        }
+    if !is_tag(field.tag) {
+        return Err(Refusal::UnknownTag);
     }
-    Written::Refused(Refusal::UnknownTag)
+    let row = row_of(field.tag);
+    check_value(row, field)?;
+    let bytes = value_length(field.tag);
+    let room = Field::HEADER + usize::from(bytes);
+    if out.len() < room {
+        return Err(Refusal::OutputTooShort);
+    }
+    put_field(row, field, bytes, out);
+    Ok(room)
 }

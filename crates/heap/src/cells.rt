@@ -4,27 +4,26 @@ ghost use Rattle.heap.specs.Counts.{live_after, live_cells};
 ghost use Rattle.rules.specs.Effect.{change_own, change_word};
 ghost use Rattle.rules.specs.Words.{after_free, invalidated, unset};
 
-use super::lists::{set_word, word_at};
+use super::lists::{item_at, set_item};
 use super::words::{after_free, invalidate};
 use rules::Heap;
 
-// Every word that holds a freed cell loses validity: one pass over the words.
+// Every word that holds a freed cell loses validity: one pass over the words, alike at each, so that the compiler makes vector code of it.
+#[tactic(auto, unfolding(rules::specs::Words::invalidated, rules::specs::Words::is_valid))]
 pub fn sweep(words: &mut [u16], cell: u16)
     ensures { words.new ≡ map (after_free cell) words.old }
 {
     let mark = invalidate(cell) - cell;
-    let mut i: usize = 0;
-    while i < words.len() {
-        words[i] = after_free(cell, mark, words[i]);
-        i += 1;
+    for word in words.iter_mut() {
+        *word = after_free(cell, mark, *word);
     }
 }
 
 fn invalidate_at(words: &mut [u16], i: usize)
     ensures { words.new ≡ change_word invalidated i words.old }
 {
-    let word = invalidate(word_at(words, i));
-    set_word(words, i, word);
+    let word = invalidate(item_at(words, i));
+    set_item(words, i, word);
 }
 
 // Both selectors of a cell lose validity, unset or not.
@@ -41,21 +40,19 @@ pub fn unset_own(selectors: &mut [u16], cell: u16)
     ensures { selectors.new ≡ change_own (λ w. unset) cell selectors.old }
 {
     let at = 2 * (cell as usize);
-    set_word(selectors, at, Heap::UNSET);
-    set_word(selectors, at + 1, Heap::UNSET);
+    set_item(selectors, at, Heap::UNSET);
+    set_item(selectors, at + 1, Heap::UNSET);
 }
 
 // The number of live cells without a cell that had this status. None is left of none.
 fn count_down(live: u32, was: u8) -> u32
     ensures { result ≡ live - live_cells was }
 {
-    if live == 0 {
-        return 0;
-    }
     if was == Heap::LIVE {
-        return live - 1;
+        live.saturating_sub(1)
+    } else {
+        live
     }
-    live
 }
 
 // The number of live cells with a cell that gets this status, beside the others.
@@ -63,9 +60,10 @@ fn count_up(others: u32, new: u8) -> u32
     ensures { result ≡ (others + live_cells new) % 4294967296 }
 {
     if new == Heap::LIVE {
-        return std::num::wrapping_add_u32(others, 1);
+        others.wrapping_add(1)
+    } else {
+        others
     }
-    others
 }
 
 // A cell's status changed, and the number of live cells brought along: no other status is read. Whatever number is handed in is
@@ -77,7 +75,8 @@ pub fn change_status(status: &mut [u8], cell: usize, new: u8, live: u32) -> u32
     if cell < status.len() {
         let others = count_down(live, status[cell]);
         status[cell] = new;
-        return count_up(others, new);
+        count_up(others, new)
+    } else {
+        live
     }
-    live
 }

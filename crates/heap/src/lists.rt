@@ -1,108 +1,56 @@
-// Lists of words, of numbers and of status bytes: one place of them read or stored, all of them filled, a board's copied in.
-ghost use Rattle.std.specs.Prelude.{◌≡◌, length, replicate, slice_index_or, slice_set};
+// Lists of words, of numbers and of status bytes: one place of them read or stored, and a board's copied in.
+ghost use Rattle.std.specs.Prelude.{◌≡◌, length, slice_index_or, slice_set};
 ghost use Rattle.heap.specs.Boards.{with_front};
-ghost use Rattle.rules.specs.State.{board_pointers, board_variables, never_used, number_at};
-ghost use Rattle.rules.specs.Words.{word_at};
+ghost use Rattle.rules.specs.State.{never_used};
+ghost use Rattle.rules.specs.Words.{unset};
 
-use rules::{Board, Heap};
+use rules::Heap;
 
-pub fn word_at(words: &[u16], i: usize) -> u16
-    ensures { result ≡ word_at words.now i }
-{
-    if i < words.len() {
-        return words[i];
-    }
-    Heap::UNSET
+// What a list of the board or the heap holds (words, numbers or status bytes), with what is read past such a list's end.
+pub trait Stored: Copy {
+    ghost PAST: { Self };
+
+    const PAST: Self;
 }
 
-pub fn number_at(numbers: &[u32], i: usize) -> u32
-    ensures { result ≡ number_at numbers.now i }
-{
-    if i < numbers.len() {
-        return numbers[i];
-    }
-    0
+impl Stored for u16 {
+    ghost PAST = { unset };
+
+    const PAST: u16 = Heap::UNSET;
 }
 
-pub fn status_at(status: &[u8], i: usize) -> u8
-    ensures { result ≡ slice_index_or status.now i never_used }
-{
-    if i < status.len() {
-        return status[i];
-    }
-    Heap::NEVER_USED
+impl Stored for u32 {
+    ghost PAST = { 0 };
+
+    const PAST: u32 = 0;
 }
 
-pub fn set_word(words: &mut [u16], i: usize, word: u16)
-    ensures { words.new ≡ slice_set words.old i word }
-{
-    if i < words.len() {
-        words[i] = word;
-    }
+impl Stored for u8 {
+    ghost PAST = { never_used };
+
+    const PAST: u8 = Heap::NEVER_USED;
 }
 
-pub fn set_number(numbers: &mut [u32], i: usize, number: u32)
-    ensures { numbers.new ≡ slice_set numbers.old i number }
+pub fn item_at<T: Stored>(list: &[T], i: usize) -> T
+    ensures { result ≡ slice_index_or list.now i T.PAST }
 {
-    if i < numbers.len() {
-        numbers[i] = number;
+    list.get(i).copied().unwrap_or(T::PAST)
+}
+
+pub fn set_item<T: Copy>(list: &mut [T], i: usize, item: T)
+    ensures { list.new ≡ slice_set list.old i item }
+{
+    if i < list.len() {
+        list[i] = item;
     }
 }
 
-pub fn fill_words(words: &mut [u16], word: u16)
-    ensures { words.new ≡ replicate (length words.old) word }
+// An array over the front of a list that has room for it. What lies past it stays. It is taken by value: by reference the run that
+// made it would keep it in memory.
+pub fn copy_front<T: Copy, const N: usize>(list: &mut [T], from: [T; N])
+    ensures { list.new ≡ with_front N from list.old }
 {
-    let mut i: usize = 0;
-    while i < words.len() {
-        words[i] = word;
-        i += 1;
-    }
-}
-
-pub fn fill_numbers(numbers: &mut [u32], number: u32)
-    ensures { numbers.new ≡ replicate (length numbers.old) number }
-{
-    let mut i: usize = 0;
-    while i < numbers.len() {
-        numbers[i] = number;
-        i += 1;
-    }
-}
-
-pub fn fill_status(status: &mut [u8], new: u8)
-    ensures { status.new ≡ replicate (length status.old) new }
-{
-    let mut i: usize = 0;
-    while i < status.len() {
-        status[i] = new;
-        i += 1;
-    }
-}
-
-// A board's pointers over the front of a list that has room for them. What lies past them stays.
-pub fn copy_words(words: &mut [u16], from: [u16; Board::POINTERS])
-    ensures { words.new ≡ with_front board_pointers from words.old }
-{
-    if words.len() < Board::POINTERS {
-        return;
-    }
-    let mut i: usize = 0;
-    while i < Board::POINTERS {
-        words[i] = from[i];
-        i += 1;
-    }
-}
-
-// The same of a board's data variables.
-pub fn copy_numbers(numbers: &mut [u32], from: [u32; Board::VARIABLES])
-    ensures { numbers.new ≡ with_front board_variables from numbers.old }
-{
-    if numbers.len() < Board::VARIABLES {
-        return;
-    }
-    let mut i: usize = 0;
-    while i < Board::VARIABLES {
-        numbers[i] = from[i];
-        i += 1;
+    if N <= list.len() {
+        list[..N].copy_from_slice(&from);
     }
 }

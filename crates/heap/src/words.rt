@@ -31,19 +31,18 @@ pub fn invalidate(word: u16) -> u16
     ensures { result ≡ invalidated word }
 {
     if is_valid(word) {
-        return word + Heap::INVALID;
+        word + Heap::INVALID
+    } else {
+        word
     }
-    word
 }
 
 // The word after a cell was freed, given what that adds to the cell's own number. A valid word that holds the cell is that number, so
 // that the word itself is compared; and the mark is added to it, so that a sweep needs no choice between two words.
+#[tactic(auto, unfolding(rules::specs::Words::after_free, rules::specs::Words::cell_of, rules::specs::Words::invalidated, rules::specs::Words::is_valid))]
 pub fn after_free(cell: u16, mark: u16, word: u16) -> u16
     requires { cell + mark ≡ invalidated cell }
     ensures { result ≡ after_free cell word }
 {
-    if word == cell {
-        return word + mark;
-    }
-    word
+    if word == cell { word + mark } else { word }
 }

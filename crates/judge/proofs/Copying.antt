@@ -1,19 +1,18 @@
 -- The copy of one field, as it is written over the output, and what is left to be copied.
 -- Assumes nothing.
-use Rattle.std.proofs.Common.{◌≡◌, ℕ, suc, ◌+◌, ◌-◌, ◌<◌, ◌≤◌, Bool, true, false, ltb, List, [], ◌∷◌, ◌++◌, length, take, drop, sym, refl, ap, ◌∙◌, append_assoc, append-nil, not-suc-le-zero, arith, length-append, length-drop, drop_of_length-le, length-take-le, drop-drop, take_at, lt-ltb}
+use Rattle.std.proofs.Common.{Ok, ◌≡◌, ℕ, suc, ◌+◌, ◌-◌, ◌<◌, ◌≤◌, Bool, true, false, ltb, List, [], ◌∷◌, ◌++◌, length, take, drop, sym, refl, ap, ◌∙◌, append_assoc, not-suc-le-zero, arith, length-append, length-drop, length-take-le, drop-drop, take_at, lt-ltb}
 use lib.Seq.{drop-append-add}
 use Rattle.fields.proofs.Passing.{Passes}
 use Rattle.fields.proofs.Writing.{length-field_bytes, writes}
 use Rattle.fields.specs.declared.Field.{Field}
-use Rattle.fields.specs.declared.Written.{Written}
 use Rattle.fields.specs.Checks.{is_cell, value_checks}
 use Rattle.fields.specs.Every.{Every}
 use Rattle.fields.specs.Limits.{cells, header_bytes}
-use Rattle.fields.specs.Read.{Got, read_field}
+use Rattle.fields.specs.Read.{read_field}
 use Rattle.fields.specs.Rows.{length_of, row_of}
-use Rattle.fields.specs.Write.{Writing, field_bytes, write_field, writing}
-use Rattle.rules.proofs.Checks.{Clear, each-stops, passed_by, race-stops}
-use Rattle.rules.specs.declared.Answer.TheVariants.{Go, Race}
+use Rattle.fields.specs.Write.{field_bytes}
+use Rattle.rules.proofs.Checks.{Clear, passed_by}
+use Rattle.rules.specs.declared.Stop.TheVariants.{Race}
 use Rattle.rules.specs.declared.Change.{Change}
 use Rattle.rules.specs.declared.Change.TheVariants.{Stay, Allocate, Release, Move, Put}
 use Rattle.rules.specs.Acts.{gives, touched}
@@ -24,7 +23,7 @@ use Rattle.rules.specs.Replay.{copy_change, copy_field, next_cell, recast}
 use Rattle.rules.specs.State.{State}
 use Rattle.judge.specs.Replays.{copied_at, replay_from}
 use Rattle.judge.specs.Steps.{Step, step_of}
-use Rattle.judge.proofs.Running.{got_passed, part, some_left}
+use Rattle.judge.proofs.Running.{got_passed, some_left}
 
 -- ---- a command that goes has a malloc left for the cell that it gives out, so its copy passes the checks that the field passed
 cell-right : (there : Bool) (c : ℕ) → ltb c cells ≡ true → is_cell there c ≡ true
@@ -39,10 +38,10 @@ module _ (s : State) (f : Field) (right : Every Passes (value_checks (row_of f.t
   right_by (Move x y) h = right
   right_by (Put x v) h = right
 
-  copy_right : check (act_of f) s ≡ Go → Every Passes (value_checks (row_of f.tag) (copy_field s (next_cell s) f))
+  copy_right : check (act_of f) s ≡ Ok tt → Every Passes (value_checks (row_of f.tag) (copy_field s (next_cell s) f))
   copy_right e =
       let a = act_of f in
-      right_by a.change (passed_by (each (valid s) Race (touched a)) a s (each-stops (valid s) Race (touched a) race-stops) e).room
+      right_by a.change (passed_by (each (valid s) Race (touched a)) a s e).room
 
 -- ---- bytes written at a place of an output
 module _ (out bytes : List ℕ) (at : ℕ) (room : at + length bytes ≤ length out) where
@@ -69,16 +68,8 @@ module _ (out bytes : List ℕ) (at : ℕ) (room : at + length bytes ≤ length 
   spliced : (rest : List ℕ) (end : ℕ) → at + length bytes ≤ end → take (at + length bytes) after ++ (rest ++ drop end after) ≡ take at out ++ ((bytes ++ rest) ++ drop end out)
   spliced rest end past = rw (written-front, written_rest end past) (simp append_assoc)
 
--- the output as the code leaves it, which writes in a part of it
-pub copied_at_lem : (out : List ℕ) (at : ℕ) → at < length out → (copy f : Field) → copy ≡ f → (answer : Written) (bytes : List ℕ) → writing answer bytes ≡ write_field copy (take (length out - at) (drop at out))
-    → take at out ++ (bytes ++ drop (length out - at) (drop at out)) ≡ copied_at at f out
-unfolding copied_at
-copied_at_lem out at within copy f same answer bytes put =
-    let laid : bytes ≡ (write_field f (drop at out)).output = ap (λ (w : Writing). w.output) (rw (part out at within, same) at put) in
-    rw (lt-ltb at (length out) within, laid, drop-drop, drop_of_length-le out {i = at + (length out - at)} (omega arith), append-nil)
-
 -- ---- the replay, by what is read at the front of the bytes
-replay_got : (n : ℕ) (b : List ℕ) (s : State) (f : Field) → 0 < length b → read_field b ≡ Got f
+replay_got : (n : ℕ) (b : List ℕ) (s : State) (f : Field) → 0 < length b → read_field b ≡ Ok f
     → replay_from (suc n) b s ≡ field_bytes (copy_field s (next_cell s) f) ++ replay_from n (drop (header_bytes + length_of f.tag) b) (effect (act_of f) s)
 unfolding replay_from
 replay_got n [] s f some e = absurd (not-suc-le-zero some)
@@ -89,15 +80,15 @@ replay_got n (x ∷ b) s f some e = rw e
 unfoldable pub output_from : ℕ → List ℕ → ℕ → State → List ℕ → List ℕ
 output_from n log at s out = take at out ++ (replay_from n (drop at log) s ++ drop (length log) out)
 
-module _ (l : List ℕ) (at : ℕ) (within : at < length l) (f : Field) (read : read_field (drop at l) ≡ Got f)
-    (s : State) (step : Step) (stepped : step ≡ step_of (act_of f) s) (goes : step.answer ≡ Go) (out : List ℕ) (room : length l ≤ length out) where
+module _ (l : List ℕ) (at : ℕ) (within : at < length l) (f : Field) (read : read_field (drop at l) ≡ Ok f)
+    (s : State) (step : Step) (stepped : step ≡ step_of (act_of f) s) (goes : step.answer ≡ Ok tt) (out : List ℕ) (room : length l ≤ length out) where
   abbrev size : ℕ
   size = header_bytes + length_of f.tag
 
   abbrev copy : Field
   copy = copy_field s (next_cell s) f
 
-  passed : check (act_of f) s ≡ Go
+  passed : check (act_of f) s ≡ Ok tt
   unfolding step_of
   passed = sym (ap (λ (x : Step). x.answer) stepped) ∙ goes
 

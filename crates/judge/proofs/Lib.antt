@@ -1,7 +1,6 @@
 -- The laws that the proofs of this crate share.
 -- Assumes nothing.
 pub mod Answers
-pub mod Changing
 pub mod Steps
 pub mod Running
 pub mod Copying

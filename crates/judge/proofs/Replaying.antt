@@ -12,7 +12,8 @@ use Rattle.rules.specs.Run.{Ending}
 use Rattle.rules.specs.Replay.{replay_bytes}
 use Rattle.rules.specs.Replaying.{output_after, replay_log, replayed}
 use Rattle.rules.specs.State.{State, board_pointers, board_variables, fresh, heap_selectors}
-use Rattle.judge.specs.Judges.{LongEnough, shown}
+use Rattle.judge.specs.Judges.{shown}
+use Rattle.judge.specs.Lendings.{LongEnough, SameSizes}
 use Rattle.judge.specs.Replays.{Copies, IsAccepted, replay_from, written}
 
 -- ---- past its front, a list is what it was
@@ -31,6 +32,12 @@ TellsAccepted (Accepted fields mallocs live) = Unit {0}
 TellsAccepted (Raced field thread variable offset) = ⊥
 TellsAccepted (Refused r field offset) = ⊥
 TellsAccepted (Declined r) = ⊥
+
+pub tells_other : (verdict : Verdict) → ((fields mallocs live : ℕ) → verdict ≡ Accepted fields mallocs live → ⊥) → TellsAccepted verdict → ⊥
+tells_other (Accepted fields mallocs live) other h = other fields mallocs live refl
+tells_other (Raced field thread variable offset) other h = h
+tells_other (Refused r field offset) other h = h
+tells_other (Declined r) other h = h
 
 told-accepted : (log : List ℕ) (ending : Ending) → TellsAccepted (located log ending) → IsAccepted ending
 told-accepted log (run.Accepted fields mallocs live) h = tt
@@ -64,15 +71,8 @@ module _ (log : List ℕ) (l : Lent) (verdict : Verdict) (after : Lent) (ran : j
   replay_kept out n = replay_as out out (told_kept log out (run_bytes log_fields log fresh).verdict (λ h. n (rw (← as_told) at h)))
 
 -- ---- the second run, over what the first has left
-pub record SameSizes (l after : Lent) : Type 0 where
-  pub pointers : length after.pointers ≡ length l.pointers
-  pub selectors : length after.selectors ≡ length l.selectors
-  pub variables : length after.variables ≡ length l.variables
-  pub numbers : length after.numbers ≡ length l.numbers
-  pub status : length after.status ≡ length l.status
-
-module _ (l after : Lent) (fit : LongEnough l.pointers l.selectors l.variables l.numbers l.status) (sizes : SameSizes l after) where
-  pub still_enough : LongEnough after.pointers after.selectors after.variables after.numbers after.status
+module _ (l after : Lent) (fit : LongEnough l) (sizes : SameSizes l after) where
+  pub still_enough : LongEnough after
   still_enough =
       record {
         pointers_fit = rw sizes.pointers fit.pointers_fit;

@@ -5,10 +5,9 @@ use Rattle.fields.specs.declared.Refusal.TheVariants.{BufferTooShort, LogTooLong
 use Rattle.fields.specs.Limits.{log_bytes, log_fields}
 use Rattle.fields.specs.Order.{in_order, test}
 use Rattle.rules.proofs.Tallies.{Takes, accepted_tally}
-use Rattle.rules.specs.declared.Tally.{Tally}
 use Rattle.rules.specs.declared.Verdict.{Verdict}
 use Rattle.rules.specs.declared.Verdict.TheVariants.{Declined}
-use Rattle.rules.specs.Judging.{Judged, Lent, judge_log, judged, lent, long_enough, showing}
+use Rattle.rules.specs.Judging.{Judged, Lent, judge_log, judged, long_enough, showing}
 use Rattle.rules.specs.Log.{end_field, located, offset_of, parse, run_bytes}
 use Rattle.rules.specs.Run.{Outcome}
 use Rattle.rules.specs.State.{fresh}
@@ -31,8 +30,5 @@ told log l = by (leb (length log) log_bytes) (long_enough l)
     by true false = tt
     by false long = tt
 
-pub told_tally : (log pointers selectors variables numbers status : List ℕ) (tally : Tally) (v : Verdict) (t : Tally) (p s x n u : List ℕ)
-    → Judges log pointers selectors variables numbers status tally v t p s x n u → Takes v t
-told_tally log pointers selectors variables numbers status tally v t p s x n u e =
-    rw (ap (λ (j : Judged). j.verdict) e, ap (λ (j : Judged). j.after.tally) e)
-    (told log (lent pointers selectors variables numbers status tally))
+pub told_tally : (log : List ℕ) (before : Lent) (v : Verdict) (after : Lent) → Judges log before v after → Takes v after.tally
+told_tally log before v after e = rw (ap (λ (j : Judged). j.verdict) e, ap (λ (j : Judged). j.after.tally) e) (told log before)

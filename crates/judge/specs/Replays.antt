@@ -4,19 +4,17 @@ use Rattle.std.specs.Prelude.{◌≡◌, ℕ, ◌≤◌, cond, List, ◌++◌, l
 use Rattle.fields.specs.declared.Field.{Field}
 use Rattle.fields.specs.Limits.{log_fields}
 use Rattle.fields.specs.Write.{write_field}
-use Rattle.rules.specs.declared.Tally.{Tally}
 use Rattle.rules.specs.declared.Verdict.{Verdict}
 use Rattle.rules.specs.Run.{Ending, Accepted, Raced, Refused}
-use Rattle.rules.specs.Judging.{Lent, lent, showing}
+use Rattle.rules.specs.Judging.{Lent, showing}
 use Rattle.rules.specs.Log.{located, parse, run_bytes}
 use Rattle.rules.specs.Replay.{bytes_of, replay}
 use Rattle.rules.specs.Replaying.{Replayed, output_after, replay_log, replayed}
 use Rattle.rules.specs.State.{State, fresh}
 
--- the log, the output, the buffers and the tally that went in; the verdict, the tally, the output and the buffers that came out
-abbrev pub Replays : List ℕ → List ℕ → List ℕ → List ℕ → List ℕ → List ℕ → List ℕ → Tally → Verdict → Tally → List ℕ → List ℕ → List ℕ → List ℕ → List ℕ → List ℕ → Type 0
-Replays log out pointers selectors variables numbers status tally verdict tally' out' pointers' selectors' variables' numbers' status' =
-    replayed verdict out' (lent pointers' selectors' variables' numbers' status' tally') ≡ replay_log log out (lent pointers selectors variables numbers status tally)
+-- the log, the output and what was lent that went in; the verdict, the output and what is lent that came out
+abbrev pub Replays : List ℕ → List ℕ → Lent → Verdict → List ℕ → Lent → Type 0
+Replays log out before verdict out' after = replayed verdict out' after ≡ replay_log log out before
 
 -- the replay where neither the log is too long nor a buffer or the output too short
 unfoldable pub written : List ℕ → List ℕ → Lent → Replayed

@@ -28,23 +28,29 @@ fn asserts(guard: Guard) -> Act
     }
 }
 
+// Stays numbers for tags: `Field` has a byte there, and `act_of` (rules, specs/Commands.antt) answers on every byte.
+#[tactic(auto, unfolding(rules::specs::Commands::command_of))]
 pub fn act_of(field: Field) -> Act
     ensures { result ≡ act_of field }
 {
-    let tag = field.tag;
-    let first = field.first;
-    let second = field.second;
-    let third = field.third;
-    let cell = field.cell;
+    let Field {
+        tag,
+        first,
+        second,
+        third,
+        cell,
+        number,
+        ..
+    } = field;
     match tag {
-        1 => does(Allocate(first, cell, field.number)),
+        1 => does(Allocate(first, cell, number)),
         2 => does(Release(first)),
         3 => does(Move(PointerVariable(first), PointerVariable(second))),
         4 => does(Move(PointerVariable(first), SelectorOf(second, third))),
         5 => does(Move(SelectorOf(first, second), PointerVariable(third))),
         6 => does(Put(DataVariable(first), Held(DataOf(second)))),
         7 => does(Put(DataOf(first), Held(DataVariable(second)))),
-        8 => does(Put(DataVariable(first), Constant(field.number))),
+        8 => does(Put(DataVariable(first), Constant(number))),
         9 => asserts(Same(true, first, second)),
         10 => asserts(Same(false, first, second)),
         11 => asserts(Equal(true, first, second)),

@@ -1,79 +1,69 @@
-// The checks of one command against the heap: 11, race, 12, 13, 14. Each gives its own answer, and the first that is not Go speaks.
-ghost use Rattle.std.specs.Prelude.{◌≡◌, [], ◌∷◌, ◌++◌, if◌then◌else◌};
-ghost use Rattle.judge.specs.Answers.{first, guarded_in, races_in, through_in, unset_in, vacant_in};
-ghost use Rattle.judge.specs.Looks.{look_in};
+// The checks of one command against the heap: 11, race, 12, 13, 14. Each gives its own answer, and the first that is not Ok speaks.
+ghost use Rattle.std.specs.Prelude.{◌≡◌, [], ◌∷◌, ◌++◌, option_to_list, Ok, Err, if◌then◌else◌};
+ghost use Rattle.judge.specs.Answers.{guarded_in, races_in, room_in, through_in, unset_in, vacant_in};
 ghost use Rattle.rules.specs.Check.{as_wanted, same_as_wanted};
 
-use super::looks::Look;
-use fields::{RecordedCell, Refusal};
-use heap::{cell_of, is_unset, is_valid, number_at, status_at, word_at};
-use rules::{Answer, Guard, Heap};
+use super::lent_heap::LentHeap;
+use fields::{Log, RecordedCell, Refusal};
+use heap::{cell_of, is_unset, is_valid, item_at};
+use rules::{Answer, Board, Guard, Heap, Stop};
 
-fn first_of(answer: Answer, later: Answer) -> Answer
-    ensures { result ≡ first answer later }
+// 11: a malloc is left for the cell that is given out.
+pub fn check_room(heap: &LentHeap<'_>, cell: RecordedCell) -> Answer
+    ensures { result ≡ room_in heap.now.tally.mallocs (cell ∷ []) }
 {
-    match answer {
-        Answer::Go => later,
-        Answer::Race(p) => Answer::Race(p),
-        Answer::Refuse(why) => Answer::Refuse(why),
+    if (Log::MALLOCS as u32) <= heap.tally.mallocs {
+        return Err(Stop::Refuse(Refusal::TooManyMallocs));
+    }
+    Ok(())
+}
+
+pub fn race_at(pointers: &[u16], look: Option<u8>) -> Answer
+    ensures { result ≡ races_in pointers.now (option_to_list look) }
+{
+    match look {
+        Some(p) if !is_valid(item_at(pointers, p as usize)) => Err(Stop::Race(p)),
+        _ => Ok(()),
     }
 }
 
-pub fn race_at(pointers: &[u16], look: Look) -> Answer
-    ensures { result ≡ races_in pointers.now (look_in look) }
+// 12: the pointer is set.
+// Stays beside race_at: one function over a test and a stop, handed in as closures, is longer than both.
+fn unset_at(pointers: &[u16], look: Option<u8>) -> Answer
+    ensures { result ≡ unset_in pointers.now (option_to_list look) }
 {
     match look {
-        Look::Nowhere => Answer::Go,
-        Look::At(p) => {
-            if is_valid(word_at(pointers, p as usize)) {
-                return Answer::Go;
-            }
-            Answer::Race(p)
+        Some(p) if is_unset(item_at(pointers, p as usize)) => {
+            Err(Stop::Refuse(Refusal::UnsetPointer))
         }
-    }
-}
-
-fn unset_at(pointers: &[u16], look: Look) -> Answer
-    ensures { result ≡ unset_in pointers.now (look_in look) }
-{
-    match look {
-        Look::Nowhere => Answer::Go,
-        Look::At(p) => {
-            if is_unset(word_at(pointers, p as usize)) {
-                return Answer::Refuse(Refusal::UnsetPointer);
-            }
-            Answer::Go
-        }
+        _ => Ok(()),
     }
 }
 
 // The pointers that a change goes through, by what is assigned to and then by what is assigned: a race at each, then 12 at each.
-pub fn check_through(pointers: &[u16], to: Look, from: Look) -> Answer
-    ensures { result ≡ through_in pointers.now (look_in to ++ look_in from) }
+pub fn check_through(pointers: &[u16], to: Option<u8>, from: Option<u8>) -> Answer
+    ensures { result ≡ through_in pointers.now (option_to_list to ++ option_to_list from) }
 {
-    first_of(
-        first_of(race_at(pointers, to), race_at(pointers, from)),
-        first_of(unset_at(pointers, to), unset_at(pointers, from)),
-    )
+    race_at(pointers, to)?;
+    race_at(pointers, from)?;
+    unset_at(pointers, to)?;
+    unset_at(pointers, from)
 }
 
 // 13: the cell is not live.
-pub fn check_vacant(status: &[u8], cell: RecordedCell) -> Answer
-    ensures { result ≡ vacant_in status.now (cell ∷ []) }
+pub fn check_vacant(heap: &LentHeap<'_>, cell: RecordedCell) -> Answer
+    ensures { result ≡ vacant_in heap.now.status.now (cell ∷ []) }
 {
-    if status_at(status, cell.0 as usize) == Heap::LIVE {
-        return Answer::Refuse(Refusal::LiveCell);
+    if heap.status_at(cell.0 as usize) == Heap::LIVE {
+        return Err(Stop::Refuse(Refusal::LiveCell));
     }
-    Answer::Go
+    Ok(())
 }
 
 fn as_wanted(wanted: bool, found: bool) -> bool
     ensures { result ≡ as_wanted wanted found }
 {
-    if wanted {
-        return found;
-    }
-    !found
+    wanted == found
 }
 
 // Unset is nil: two that are unset are the same, and one that is unset is no cell.
@@ -86,43 +76,34 @@ fn same_as_wanted(wanted: bool, v: u16, w: u16) -> bool
 
 // 14: the assertion holds.
 fn check_holds(holds: bool) -> Answer
-    ensures { result ≡ (if holds then Answer.Go else Answer.Refuse Refusal.AssertionFails) }
+    ensures { result ≡ (if holds then Ok tt else Err (Stop.Refuse Refusal.AssertionFails)) }
 {
     if holds {
-        return Answer::Go;
+        Ok(())
+    } else {
+        Err(Stop::Refuse(Refusal::AssertionFails))
     }
-    Answer::Refuse(Refusal::AssertionFails)
 }
 
 // The races of an assertion come before what the checks of the change say, and its failure after.
-pub fn check_guard<'a>(
-    guard: Guard,
-    pointers: &'a [u16],
-    variables: &'a [u32],
-    change: Answer,
-) -> Answer
-    ensures { result ≡ guarded_in pointers.now variables.now guard change }
+pub fn check_guard(guard: Guard, board: &Board, change: Answer) -> Answer
+    ensures { result ≡ guarded_in board.now.pointers board.now.variables guard change }
 {
     match guard {
         Guard::Always => change,
         Guard::Same(wanted, p, q) => {
-            let races = first_of(
-                race_at(pointers, Look::At(p)),
-                race_at(pointers, Look::At(q)),
-            );
-            let holds = same_as_wanted(
-                wanted,
-                word_at(pointers, p as usize),
-                word_at(pointers, q as usize),
-            );
-            first_of(races, first_of(change, check_holds(holds)))
+            race_at(&board.pointers, Some(p))?;
+            race_at(&board.pointers, Some(q))?;
+            change?;
+            let v = item_at(&board.pointers, p as usize);
+            let w = item_at(&board.pointers, q as usize);
+            check_holds(same_as_wanted(wanted, v, w))
         }
         Guard::Equal(wanted, x, y) => {
-            let holds = as_wanted(
-                wanted,
-                number_at(variables, x as usize) == number_at(variables, y as usize),
-            );
-            first_of(change, check_holds(holds))
+            change?;
+            let m = item_at(&board.variables, x as usize);
+            let n = item_at(&board.variables, y as usize);
+            check_holds(as_wanted(wanted, m == n))
         }
     }
 }

@@ -1,46 +1,46 @@
 // What a command that passed the checks does to the board, the heap and the tally.
-ghost use Rattle.std.specs.Prelude.{◌≡◌, ℕ, ◌+◌, ◌%◌, ◌≤◌, List, if◌then◌else◌, nat_eq, slice_set};
-ghost use Rattle.fields.specs.Limits.{log_fields};
-ghost use Rattle.heap.specs.Boards.{board_of};
-ghost use Rattle.judge.specs.Steps.{Counts};
+ghost use Rattle.std.specs.Prelude.{◌≡◌, ◌+◌, ◌%◌, ◌<◌, if◌then◌else◌, nat_eq, slice_set};
+ghost use Rattle.fields.specs.Limits.{log_mallocs};
+ghost use Rattle.judge.specs.LentHeaps.{SameLists, state_with};
 ghost use Rattle.rules.specs.Acts.{data_place_in, place_in, value_in};
 ghost use Rattle.rules.specs.Effect.{apply, change_own, free, give};
-ghost use Rattle.rules.specs.State.{datum_in, never_used, number_at, numbers_with, pointers_with, selectors_with, state_of, variables_with, word_in};
+ghost use Rattle.rules.specs.State.{datum_in, never_used, number_at, store, word_in, write};
 ghost use Rattle.rules.specs.Words.{unset};
 
-use heap::{
-    cell_of, change_status, invalidate_own, is_unset, number_at, set_number, set_word, status_at,
-    sweep, unset_own, word_at,
-};
-use rules::{Change, DExp, DataPlace, Heap, PExp, Place, Tally, Value};
+use super::lent_heap::LentHeap;
+use heap::{cell_of, invalidate_own, is_unset, item_at, set_item, sweep, unset_own};
+use rules::{Board, Change, DExp, DataPlace, Heap, PExp, Place, Value};
 
+// The functions for words and for data stay two: the definitions that they meet take a Place or a DataPlace, and a word is no number.
 fn place_of(pointers: &[u16], e: PExp) -> Place
     ensures { result ≡ place_in pointers.now e }
 {
     match e {
         PExp::PointerVariable(p) => Place::PointerWord(p as usize),
         PExp::SelectorOf(p, selector) => {
-            let cell = cell_of(word_at(pointers, p as usize));
+            let cell = cell_of(item_at(pointers, p as usize));
             Place::SelectorWord(2 * (cell as usize) + (selector as usize))
         }
     }
 }
 
-fn word_in(pointers: &[u16], selectors: &[u16], place: Place) -> u16
-    ensures { result ≡ word_in pointers.now selectors.now place }
+fn word_in(board: &Board, heap: &LentHeap<'_>, place: Place) -> u16
+    ensures { result ≡ word_in board.now.pointers heap.now.selectors.now place }
 {
     match place {
-        Place::PointerWord(i) => word_at(pointers, i),
-        Place::SelectorWord(i) => word_at(selectors, i),
+        Place::PointerWord(i) => item_at(&board.pointers, i),
+        Place::SelectorWord(i) => heap.selector_at(i),
     }
 }
 
-fn write_word(pointers: &mut [u16], selectors: &mut [u16], place: Place, word: u16)
-    ensures { (pointers.new ≡ pointers_with place word pointers.old) × (selectors.new ≡ selectors_with place word selectors.old) }
+#[tactic(auto, unfolding(rules::specs::State::write))]
+fn write_word(board: &mut Board, heap: &mut LentHeap<'_>, place: Place, word: u16)
+    ensures by_rule { state_with board.new heap.new ≡ write place word (state_with board.old heap.old) }
+    ensures same_lists { SameLists heap.old heap.new }
 {
     match place {
-        Place::PointerWord(i) => set_word(pointers, i, word),
-        Place::SelectorWord(i) => set_word(selectors, i, word),
+        Place::PointerWord(i) => set_item(&mut board.pointers, i, word),
+        Place::SelectorWord(i) => set_item(heap.selectors, i, word),
     }
 }
 
@@ -50,18 +50,18 @@ fn data_place_of(pointers: &[u16], e: DExp) -> DataPlace
     match e {
         DExp::DataVariable(x) => DataPlace::VariableNumber(x as usize),
         DExp::DataOf(p) => {
-            let cell = cell_of(word_at(pointers, p as usize));
+            let cell = cell_of(item_at(pointers, p as usize));
             DataPlace::CellNumber(cell as usize)
         }
     }
 }
 
-fn datum_in(variables: &[u32], numbers: &[u32], place: DataPlace) -> u32
-    ensures { result ≡ datum_in variables.now numbers.now place }
+fn datum_in(board: &Board, heap: &LentHeap<'_>, place: DataPlace) -> u32
+    ensures { result ≡ datum_in board.now.variables heap.now.numbers.now place }
 {
     match place {
-        DataPlace::VariableNumber(i) => number_at(variables, i),
-        DataPlace::CellNumber(i) => number_at(numbers, i),
+        DataPlace::VariableNumber(i) => item_at(&board.variables, i),
+        DataPlace::CellNumber(i) => heap.number_at(i),
     }
 }
 
@@ -69,31 +69,27 @@ fn datum_in(variables: &[u32], numbers: &[u32], place: DataPlace) -> u32
 fn sum_of(variables: &[u32], y: u8, z: u8) -> u32
     ensures { result ≡ (number_at variables.now y + number_at variables.now z) % 4294967296 }
 {
-    std::num::wrapping_add_u32(
-        number_at(variables, y as usize),
-        number_at(variables, z as usize),
-    )
+    item_at(variables, y as usize).wrapping_add(item_at(variables, z as usize))
 }
 
-fn value_in(pointers: &[u16], variables: &[u32], numbers: &[u32], value: Value) -> u32
-    ensures { result ≡ value_in pointers.now variables.now numbers.now value }
+fn value_in(board: &Board, heap: &LentHeap<'_>, value: Value) -> u32
+    ensures { result ≡ value_in board.now.pointers board.now.variables heap.now.numbers.now value }
 {
     match value {
-        Value::Held(e) => {
-            let place = data_place_of(pointers, e);
-            datum_in(variables, numbers, place)
-        }
+        Value::Held(e) => datum_in(board, heap, data_place_of(&board.pointers, e)),
         Value::Constant(number) => number,
-        Value::Sum(y, z) => sum_of(variables, y, z),
+        Value::Sum(y, z) => sum_of(&board.variables, y, z),
     }
 }
 
-fn store_number(variables: &mut [u32], numbers: &mut [u32], place: DataPlace, number: u32)
-    ensures { (variables.new ≡ variables_with place number variables.old) × (numbers.new ≡ numbers_with place number numbers.old) }
+#[tactic(auto, unfolding(rules::specs::State::store))]
+fn store_number(board: &mut Board, heap: &mut LentHeap<'_>, place: DataPlace, number: u32)
+    ensures by_rule { state_with board.new heap.new ≡ store place number (state_with board.old heap.old) }
+    ensures same_lists { SameLists heap.old heap.new }
 {
     match place {
-        DataPlace::VariableNumber(i) => set_number(variables, i, number),
-        DataPlace::CellNumber(i) => set_number(numbers, i, number),
+        DataPlace::VariableNumber(i) => set_item(&mut board.variables, i, number),
+        DataPlace::CellNumber(i) => set_item(heap.numbers, i, number),
     }
 }
 
@@ -104,99 +100,61 @@ fn renew(selectors: &mut [u16], numbers: &mut [u32], was: u8, cell: u16, number:
 {
     if was == Heap::NEVER_USED {
         unset_own(selectors, cell);
-        set_number(numbers, cell as usize, number);
+        set_item(numbers, cell as usize, number);
     }
 }
 
-// Data variables are not touched by a malloc, so what is said holds whatever these are.
-pub fn give_cell(
-    p: u8,
-    cell: u16,
-    number: u32,
-    tally: Tally,
-    pointers: &mut [u16],
-    selectors: &mut [u16],
-    numbers: &mut [u32],
-    status: &mut [u8],
-) -> Tally
-    requires { (tally.mallocs ≤ log_fields) × Counts tally status.old }
-    ensures by_rule { (variables : List ℕ) → state_of (board_of pointers.new variables) result selectors.new numbers.new status.new ≡ give p cell number (state_of (board_of pointers.old variables) tally selectors.old numbers.old status.old) }
-    ensures counts { Counts result status.new }
+#[tactic(auto, unfolding(rules::specs::Effect::give))]
+pub fn give_cell(p: u8, cell: u16, number: u32, board: &mut Board, heap: &mut LentHeap<'_>)
+    requires { heap.old.tally.mallocs < log_mallocs }
+    ensures by_rule { state_with board.new heap.new ≡ give p cell number (state_with board.old heap.old) }
+    ensures same_lists { SameLists heap.old heap.new }
 {
     let at = cell as usize;
-    let was = status_at(status, at);
-    renew(selectors, numbers, was, cell, number);
-    let live = change_status(status, at, Heap::LIVE, tally.live);
-    set_word(pointers, p as usize, cell);
-    Tally {
-        fields: tally.fields,
-        mallocs: tally.mallocs + 1,
-        live,
-    }
+    let was = heap.status_at(at);
+    renew(heap.selectors, heap.numbers, was, cell, number);
+    heap.change_status(at, Heap::LIVE);
+    heap.tally.mallocs += 1;
+    set_item(&mut board.pointers, p as usize, cell);
 }
 
-// Numbers and data variables are not touched by a free, so what is said holds whatever these are.
-fn free_cell(
-    cell: u16,
-    tally: Tally,
-    pointers: &mut [u16],
-    selectors: &mut [u16],
-    status: &mut [u8],
-) -> Tally
-    requires { Counts tally status.old }
-    ensures by_rule { (variables numbers : List ℕ) → state_of (board_of pointers.new variables) result selectors.new numbers status.new ≡ free cell (state_of (board_of pointers.old variables) tally selectors.old numbers status.old) }
-    ensures counts { Counts result status.new }
+#[tactic(auto, unfolding(rules::specs::Effect::free))]
+fn free_cell(cell: u16, board: &mut Board, heap: &mut LentHeap<'_>)
+    ensures by_rule { state_with board.new heap.new ≡ free cell (state_with board.old heap.old) }
+    ensures same_lists { SameLists heap.old heap.new }
 {
-    sweep(pointers, cell);
-    sweep(selectors, cell);
-    invalidate_own(selectors, cell);
-    let live = change_status(status, cell as usize, Heap::FREED, tally.live);
-    Tally {
-        fields: tally.fields,
-        mallocs: tally.mallocs,
-        live,
-    }
+    sweep(&mut board.pointers, cell);
+    sweep(heap.selectors, cell);
+    invalidate_own(heap.selectors, cell);
+    heap.change_status(cell as usize, Heap::FREED);
 }
 
 // The free of an unset pointer changes nothing.
-pub fn release(
-    p: u8,
-    tally: Tally,
-    pointers: &mut [u16],
-    selectors: &mut [u16],
-    status: &mut [u8],
-) -> Tally
-    requires { Counts tally status.old }
-    ensures by_rule { (variables numbers : List ℕ) → state_of (board_of pointers.new variables) result selectors.new numbers status.new ≡ apply (Change.Release p) (state_of (board_of pointers.old variables) tally selectors.old numbers status.old) }
-    ensures counts { Counts result status.new }
+pub fn release(p: u8, board: &mut Board, heap: &mut LentHeap<'_>)
+    ensures by_rule { state_with board.new heap.new ≡ apply (Change.Release p) (state_with board.old heap.old) }
+    ensures same_lists { SameLists heap.old heap.new }
 {
-    let word = word_at(pointers, p as usize);
-    if is_unset(word) {
-        return tally;
+    let word = item_at(&board.pointers, p as usize);
+    if !is_unset(word) {
+        free_cell(cell_of(word), board, heap);
     }
-    free_cell(cell_of(word), tally, pointers, selectors, status)
 }
 
 // A copy takes the whole word, mark included.
-pub fn move_word(to: PExp, from: PExp, pointers: &mut [u16], selectors: &mut [u16])
-    ensures { (tally : Tally) (variables numbers status : List ℕ) → state_of (board_of pointers.new variables) tally selectors.new numbers status ≡ apply (Change.Move to from) (state_of (board_of pointers.old variables) tally selectors.old numbers status) }
+pub fn move_word(to: PExp, from: PExp, board: &mut Board, heap: &mut LentHeap<'_>)
+    ensures by_rule { state_with board.new heap.new ≡ apply (Change.Move to from) (state_with board.old heap.old) }
+    ensures same_lists { SameLists heap.old heap.new }
 {
-    let target = place_of(pointers, to);
-    let source = place_of(pointers, from);
-    let word = word_in(pointers, selectors, source);
-    write_word(pointers, selectors, target, word);
+    let target = place_of(&board.pointers, to);
+    let word = word_in(board, heap, place_of(&board.pointers, from));
+    write_word(board, heap, target, word);
 }
 
-pub fn put_number(
-    to: DExp,
-    value: Value,
-    pointers: &[u16],
-    variables: &mut [u32],
-    numbers: &mut [u32],
-)
-    ensures { (tally : Tally) (selectors status : List ℕ) → state_of (board_of pointers.now variables.new) tally selectors numbers.new status ≡ apply (Change.Put to value) (state_of (board_of pointers.now variables.old) tally selectors numbers.old status) }
+pub fn put_number(to: DExp, value: Value, board: &mut Board, heap: &mut LentHeap<'_>)
+    ensures by_rule { state_with board.new heap.new ≡ apply (Change.Put to value) (state_with board.old heap.old) }
+    ensures same_lists { SameLists heap.old heap.new }
 {
-    let target = data_place_of(pointers, to);
-    let number = value_in(pointers, variables, numbers, value);
-    store_number(variables, numbers, target, number);
+    let target = data_place_of(&board.pointers, to);
+    let number = value_in(board, heap, value);
+    store_number(board, heap, target, number);
 }

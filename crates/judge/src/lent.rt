@@ -1,133 +1,91 @@
 // A log judged over what the caller lends: buffers of any length, of which only the named sizes are touched, and the tally by value.
 ghost use Rattle.std.specs.Prelude.{◌≡◌, ◌≤◌, length};
-ghost use Rattle.fields.specs.Limits.{cells, log_bytes, log_fields};
-ghost use Rattle.judge.specs.Judges.{Judges, LongEnough, shown};
+ghost use Rattle.fields.specs.Limits.{cells, log_fields};
+ghost use Rattle.judge.specs.Judges.{Judges, shown};
+ghost use Rattle.judge.specs.Lendings.{LongEnough, SameBuffers, SameSizes, lent_in};
 ghost use Rattle.judge.specs.Replays.{Copies};
-ghost use Rattle.judge.specs.Runs.{RanTo};
-ghost use Rattle.judge.specs.Steps.{Counts};
-ghost use Rattle.rules.specs.Judging.{judged, lent, long_enough};
-ghost use Rattle.rules.specs.Log.{run_bytes};
-ghost use Rattle.rules.specs.State.{fresh, fresh_board, fresh_tally, heap_selectors, state_of};
+ghost use Rattle.rules.specs.Judging.{judged};
+ghost use Rattle.rules.specs.Log.{located, run_bytes};
+ghost use Rattle.rules.specs.Run.{live_count};
+ghost use Rattle.rules.specs.State.{fresh, fresh_tally, heap_selectors, state_of};
 
 use super::Judged;
+use super::buffers::Buffers;
+use super::lent_heap::LentHeap;
 use super::run::{Ran, run};
-use fields::{Log, Refusal};
-use heap::{copy_numbers, copy_words, fill_numbers, fill_status, fill_words};
-use rules::{Board, Heap, Tally, Verdict};
+use fields::{Refusal, ShortLog};
+use heap::copy_front;
+use rules::{Heap, Tally, Verdict};
 
-pub fn long_enough(
-    pointers: &[u16],
-    selectors: &[u16],
-    variables: &[u32],
-    numbers: &[u32],
-    status: &[u8],
-) -> bool
-    ensures { (tally : Tally) → result ≡ long_enough (lent pointers.now selectors.now variables.now numbers.now status.now tally) }
+// A call that is refused at no field: the tally stays as it was lent.
+pub fn declined(why: Refusal, tally: Tally) -> Judged
+    ensures { result ≡ record { verdict = Verdict.Declined why; tally = tally } }
 {
-    if pointers.len() < Board::POINTERS {
-        return false;
+    Judged {
+        verdict: Verdict::Declined(why),
+        tally,
     }
-    if selectors.len() < Heap::SELECTORS {
-        return false;
-    }
-    if variables.len() < Board::VARIABLES {
-        return false;
-    }
-    if numbers.len() < Heap::CELLS {
-        return false;
-    }
-    Heap::CELLS <= status.len()
 }
 
-// The lists of the fresh state, whatever they held.
-fn refresh(selectors: &mut [u16], numbers: &mut [u32], status: &mut [u8])
-    requires { (length selectors.old ≡ heap_selectors) × ((length numbers.old ≡ cells) × (length status.old ≡ cells)) }
-    ensures { state_of fresh_board fresh_tally selectors.new numbers.new status.new ≡ fresh }
-{
-    fill_words(selectors, Heap::UNSET);
-    fill_numbers(numbers, 0);
-    fill_status(status, Heap::NEVER_USED);
-}
-
+// The run over lists of the heap's sizes, from the fresh state whatever they held, and the tally that it leaves.
 fn run_fresh(
-    log: &[u8],
+    log: ShortLog<'_>,
     out: &mut [u8],
     selectors: &mut [u16],
     numbers: &mut [u32],
     status: &mut [u8],
-) -> Ran
-    requires log_fits { length log.now ≤ log_bytes }
-    requires sized { (length selectors.old ≡ heap_selectors) × ((length numbers.old ≡ cells) × (length status.old ≡ cells)) }
-    ensures ran_to { RanTo log.now (run_bytes log_fields log.now fresh) result selectors.new numbers.new status.new }
-    ensures counts { Counts result.tally status.new }
-    ensures copies { Copies log.now fresh out.old out.new }
+) -> (Ran, Tally)
+    requires { (length selectors.old ≡ heap_selectors) × ((length numbers.old ≡ cells) × (length status.old ≡ cells)) }
+    ensures told { result.0.verdict ≡ located log.entry.bytes.now (run_bytes log_fields log.entry.bytes.now fresh).verdict }
+    ensures left { state_of result.0.board result.1 selectors.new numbers.new status.new ≡ (run_bytes log_fields log.entry.bytes.now fresh).state }
+    ensures counted { result.1.live ≡ live_count status.new }
+    ensures copies { Copies log.entry.bytes.now fresh out.old out.new }
 {
-    refresh(selectors, numbers, status);
-    run(log, out, selectors, numbers, status)
+    selectors.fill(Heap::UNSET);
+    numbers.fill(0);
+    status.fill(Heap::NEVER_USED);
+    let mut heap = LentHeap {
+        selectors,
+        numbers,
+        status,
+        tally: Tally::fresh(),
+    };
+    let ran = run(log, out, &mut heap);
+    (ran, heap.tally)
 }
 
 // The run over exactly the named sizes of what is lent. What lies past them stays.
-pub fn run_lent(
-    log: &[u8],
-    out: &mut [u8],
-    pointers: &mut [u16],
-    selectors: &mut [u16],
-    variables: &mut [u32],
-    numbers: &mut [u32],
-    status: &mut [u8],
-) -> Judged
-    requires log_fits { length log.now ≤ log_bytes }
-    requires long_enough { LongEnough pointers.old selectors.old variables.old numbers.old status.old }
-    ensures shows { (tally : Tally) → judged result.verdict (lent pointers.new selectors.new variables.new numbers.new status.new result.tally) ≡ shown log.now (lent pointers.old selectors.old variables.old numbers.old status.old tally) }
-    ensures copies { Copies log.now fresh out.old out.new }
+pub fn run_lent(log: ShortLog<'_>, out: &mut [u8], buffers: &mut Buffers<'_>) -> Judged
+    requires { LongEnough (lent_in buffers.old fresh_tally) }
+    ensures shows { (tally : Tally) → judged result.verdict (lent_in buffers.new result.tally) ≡ shown log.entry.bytes.now (lent_in buffers.old tally) }
+    ensures copies { Copies log.entry.bytes.now fresh out.old out.new }
+    ensures same_sizes { (tally : Tally) → SameSizes (lent_in buffers.old tally) (lent_in buffers.new tally) }
+    ensures same_buffers { SameBuffers buffers.old buffers.new }
 {
-    let ran = run_fresh(
+    let (ran, tally) = run_fresh(
         log,
         out,
-        &mut selectors[..Heap::SELECTORS],
-        &mut numbers[..Heap::CELLS],
-        &mut status[..Heap::CELLS],
+        &mut buffers.selectors[..Heap::SELECTORS],
+        &mut buffers.numbers[..Heap::CELLS],
+        &mut buffers.status[..Heap::CELLS],
     );
-    let board = ran.board;
-    let words = board.pointers;
-    let values = board.variables;
-    copy_words(pointers, words);
-    copy_numbers(variables, values);
-    let verdict = ran.verdict;
-    let tally = ran.tally;
-    Judged { verdict, tally }
-}
-
-pub fn judge_log(
-    log: &[u8],
-    pointers: &mut [u16],
-    selectors: &mut [u16],
-    variables: &mut [u32],
-    numbers: &mut [u32],
-    status: &mut [u8],
-    tally: Tally,
-) -> Judged
-    ensures { Judges log.now pointers.old selectors.old variables.old numbers.old status.old tally result.verdict result.tally pointers.new selectors.new variables.new numbers.new status.new }
-{
-    if Log::BYTES < log.len() {
-        return Judged {
-            verdict: Verdict::Declined(Refusal::LogTooLong),
-            tally,
-        };
-    }
-    if long_enough(pointers, selectors, variables, numbers, status) {
-        return run_lent(
-            log,
-            &mut [],
-            pointers,
-            selectors,
-            variables,
-            numbers,
-            status,
-        );
-    }
+    copy_front(buffers.pointers, ran.board.pointers);
+    copy_front(buffers.variables, ran.board.variables);
     Judged {
-        verdict: Verdict::Declined(Refusal::BufferTooShort),
+        verdict: ran.verdict,
         tally,
     }
+}
+
+pub fn judge_log(log: &[u8], buffers: &mut Buffers<'_>, tally: Tally) -> Judged
+    ensures judges { Judges log.now (lent_in buffers.old tally) result.verdict (lent_in buffers.new result.tally) }
+    ensures same_buffers { SameBuffers buffers.old buffers.new }
+{
+    let Ok(short) = ShortLog::of(log) else {
+        return declined(Refusal::LogTooLong, tally);
+    };
+    if !buffers.are_long_enough() {
+        return declined(Refusal::BufferTooShort, tally);
+    }
+    run_lent(short, &mut [], buffers)
 }

@@ -3,10 +3,12 @@
 #![tactic(auto)]
 
 mod acts;
+mod buffers;
 mod checks;
 mod copies;
 mod effects;
 mod lent;
+mod lent_heap;
 mod looks;
 mod plays;
 mod replay;
@@ -14,6 +16,7 @@ mod run;
 mod step;
 
 pub use acts::act_of;
+pub use buffers::Buffers;
 pub use lent::judge_log;
 pub use replay::replay_log;
 use rules::{Tally, Verdict};

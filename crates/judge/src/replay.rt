@@ -1,79 +1,42 @@
 // A log's replay written over what the caller lends: 1, 2, 15, then as judging.
 ghost use Rattle.std.specs.Prelude.{◌≡◌, ◌≤◌, length};
-ghost use Rattle.fields.specs.Limits.{log_bytes};
-ghost use Rattle.judge.specs.Judges.{LongEnough};
+ghost use Rattle.judge.specs.Lendings.{LongEnough, SameBuffers, lent_in};
 ghost use Rattle.judge.specs.Replays.{Replays, written};
-ghost use Rattle.rules.specs.Judging.{lent};
 ghost use Rattle.rules.specs.Replaying.{replayed};
+ghost use Rattle.rules.specs.State.{fresh_tally};
 
 use super::Judged;
-use super::lent::{long_enough, run_lent};
-use fields::{Log, Refusal};
+use super::buffers::Buffers;
+use super::lent::{declined, run_lent};
+use fields::{Refusal, ShortLog};
 use rules::{Tally, Verdict};
 
 // The log is judged before a byte is written, so that the output of one that is not accepted stays.
-fn replay_lent(
-    log: &[u8],
-    out: &mut [u8],
-    pointers: &mut [u16],
-    selectors: &mut [u16],
-    variables: &mut [u32],
-    numbers: &mut [u32],
-    status: &mut [u8],
-) -> Judged
-    requires log_fits { (length log.now ≤ log_bytes) × (length log.now ≤ length out.old) }
-    requires long_enough { LongEnough pointers.old selectors.old variables.old numbers.old status.old }
-    ensures { (tally : Tally) → replayed result.verdict out.new (lent pointers.new selectors.new variables.new numbers.new status.new result.tally) ≡ written log.now out.old (lent pointers.old selectors.old variables.old numbers.old status.old tally) }
+fn replay_lent(log: ShortLog<'_>, out: &mut [u8], buffers: &mut Buffers<'_>) -> Judged
+    requires room { length log.bytes.now ≤ length out.old }
+    requires long_enough { LongEnough (lent_in buffers.old fresh_tally) }
+    ensures replays { (tally : Tally) → replayed result.verdict out.new (lent_in buffers.new result.tally) ≡ written log.entry.bytes.now out.old (lent_in buffers.old tally) }
+    ensures same_buffers { SameBuffers buffers.old buffers.new }
 {
-    let judged = run_lent(
-        log,
-        &mut [],
-        pointers,
-        selectors,
-        variables,
-        numbers,
-        status,
-    );
-    let verdict = judged.verdict;
-    match verdict {
-        Verdict::Accepted(_, _, _) => {
-            run_lent(log, out, pointers, selectors, variables, numbers, status)
-        }
-        Verdict::Raced(_, _, _, _) => judged,
-        Verdict::Refused(_, _, _) => judged,
-        Verdict::Declined(_) => judged,
+    let judged = run_lent(log, &mut [], buffers);
+    match judged.verdict {
+        Verdict::Accepted(_, _, _) => run_lent(log, out, buffers),
+        _ => judged,
     }
 }
 
-pub fn replay_log(
-    log: &[u8],
-    out: &mut [u8],
-    pointers: &mut [u16],
-    selectors: &mut [u16],
-    variables: &mut [u32],
-    numbers: &mut [u32],
-    status: &mut [u8],
-    tally: Tally,
-) -> Judged
-    ensures { Replays log.now out.old pointers.old selectors.old variables.old numbers.old status.old tally result.verdict result.tally out.new pointers.new selectors.new variables.new numbers.new status.new }
+pub fn replay_log(log: &[u8], out: &mut [u8], buffers: &mut Buffers<'_>, tally: Tally) -> Judged
+    ensures replays { Replays log.now out.old (lent_in buffers.old tally) result.verdict out.new (lent_in buffers.new result.tally) }
+    ensures same_buffers { SameBuffers buffers.old buffers.new }
 {
-    if Log::BYTES < log.len() {
-        return Judged {
-            verdict: Verdict::Declined(Refusal::LogTooLong),
-            tally,
-        };
+    let Ok(short) = ShortLog::of(log) else {
+        return declined(Refusal::LogTooLong, tally);
+    };
+    if !buffers.are_long_enough() {
+        return declined(Refusal::BufferTooShort, tally);
     }
-    if long_enough(pointers, selectors, variables, numbers, status) {
-        if out.len() < log.len() {
-            return Judged {
-                verdict: Verdict::Declined(Refusal::OutputTooShort),
-                tally,
-            };
-        }
-        return replay_lent(log, out, pointers, selectors, variables, numbers, status);
+    if out.len() < log.len() {
+        return declined(Refusal::OutputTooShort, tally);
     }
-    Judged {
-        verdict: Verdict::Declined(Refusal::BufferTooShort),
-        tally,
-    }
+    replay_lent(short, out, buffers)
 }

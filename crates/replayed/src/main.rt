@@ -2,68 +2,60 @@
 // line goes to standard error. What is written is proved in the crates below. Its stored input is document 01's case L.
 #![tactic(auto)]
 
-use console::{
-    Ends, ROOM, Target, end_line, finish, is_read, put_verdict, tell_failed, write_front,
-};
+ghost use Rattle.console.specs.Memories.{printed};
+ghost use Rattle.replayed.specs.Written.{front_if_accepted, replayed, written_of};
+ghost use Rattle.std.specs.Io.KnownBytes.{Appends};
+ghost use Rattle.std.specs.Prelude.{◌≤◌, IfOk, length};
+
+use console::{Failure, Memory, answer_log, finish};
 use fields::Log;
-use rules::{Board, Heap, Tally, Verdict};
+use rules::Verdict;
+use std::io::Write;
 use std::process::ExitCode;
+use streams::{write_line, write_whole};
 
 // A replay is as long as its log, and stands at the output's front.
-fn write_replay(ends: Ends, verdict: Verdict, output: &[u8], length: usize) -> bool {
+fn write_replay<W: Write + Drop>(
+    mut to: W,
+    verdict: Verdict,
+    log: &[u8],
+    output: &[u8],
+) -> Result<W, Failure>
+    requires { length log.now ≤ length output.now }
+    ensures { IfOk result (λ writer. Appends (W.contents to) (W.contents writer) (front_if_accepted verdict log.now output.now)) }
+{
     match verdict {
-        Verdict::Accepted(_, _, _) => write_front(ends, Target::Output, output, length),
-        Verdict::Raced(_, _, _, _) => true,
-        Verdict::Refused(_, _, _) => true,
-        Verdict::Declined(_) => true,
-    }
-}
-
-fn write_line(ends: Ends, verdict: Verdict) -> bool {
-    let mut text = [0u8; ROOM];
-    let at = put_verdict(ends, &mut text, 0, verdict);
-    end_line(ends, Target::Error, &mut text, at)
-}
-
-// Whether the replay and the verdict were written.
-fn answer(ends: Ends, log: &[u8]) -> bool {
-    let blank = Log::fresh();
-    let mut out = blank.bytes;
-    let board = Board::fresh();
-    let mut pointers = board.pointers;
-    let mut variables = board.variables;
-    let heap = Heap::fresh();
-    let mut selectors = heap.selectors;
-    let mut numbers = heap.numbers;
-    let mut status = heap.status;
-    let judged = judge::replay_log(
-        log,
-        &mut out,
-        &mut pointers,
-        &mut selectors,
-        &mut variables,
-        &mut numbers,
-        &mut status,
-        Tally::fresh(),
-    );
-    let verdict = judged.verdict;
-    if write_replay(ends, verdict, &out, log.len()) {
-        return write_line(ends, verdict);
-    }
-    false
-}
-
-// A log that fills the room is longer than a log may be.
-fn main(rt: HostRuntime) -> ExitCode {
-    let ends = Ends::of(&rt);
-    let mut bytes = [0u8; Log::ROOM];
-    let read = streams::read_into(&mut rt.stdin(), &mut bytes);
-    let length = read.length;
-    let stop = read.stop;
-    if is_read(ends, stop, read.error) {
-        if answer(ends, &bytes[..length]) {
-            return finish(ends, stop);
+        Verdict::Accepted(..) => {
+            match write_whole(&mut to, &output[..log.len()]) {
+                Ok(()) => Ok(to),
+                Err(why) => Err(Failure::Output(why)),
+            }
         }
+        _ => Ok(to),
     }
-    tell_failed()
+}
+
+fn answer<O: Write + Drop, E: Write + Drop>(
+    output: O,
+    error: E,
+    log: &[u8],
+) -> Result<(O, E), Failure>
+    requires { length log.now ≤ 45057 }
+    ensures replay { IfOk result (λ writers. Appends (O.contents output) (O.contents writers.0) (written_of log.now)) }
+    ensures verdict { IfOk result (λ writers. Appends (E.contents error) (E.contents writers.1) (printed (replayed log.now).verdict)) }
+{
+    let mut out = [0u8; Log::ROOM];
+    let verdict = Memory::fresh().replay(log, &mut out);
+    let output = write_replay(output, verdict, log, &out)?;
+    match write_line(error, verdict) {
+        Ok(error) => Ok((output, error)),
+        Err(why) => Err(Failure::Error(why)),
+    }
+}
+
+fn main(rt: HostRuntime) -> ExitCode {
+    let answered = answer_log(&mut rt.stdin(), |log| {
+        answer(rt.stdout(), rt.stderr(), log).map(|_| ())
+    });
+    finish(rt.stderr(), answered)
 }

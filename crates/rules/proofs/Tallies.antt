@@ -8,19 +8,19 @@ use lib.ListN.{length}
 use mathlib.Core.List.{List, [], ◌∷◌}
 use mathlib.Core.Path.{◌≡◌, refl}
 use native.Mathlib.Omega.{arith}
+use Rattle.std.specs.Prelude.{Ok, Err}
 use Rattle.fields.proofs.Passing.{either}
 use Rattle.fields.specs.declared.Field.{Field}
 use Rattle.rules.specs.declared.Change.{Change}
 use Rattle.rules.specs.declared.Change.TheVariants.{Stay, Allocate, Release, Move, Put}
 use Rattle.rules.specs.declared.Act.{Act}
-use Rattle.rules.specs.declared.Answer.{Answer}
-use Rattle.rules.specs.declared.Answer.TheVariants.{Go, Race, Refuse}
+use Rattle.rules.specs.declared.Stop.TheVariants.{Race, Refuse}
 use Rattle.rules.specs.declared.Tally.{Tally}
 use Rattle.rules.specs.declared.Verdict.{Verdict}
 use Rattle.rules.specs.declared.Verdict.TheVariants.{Accepted, Declined, Raced, Refused}
 use Rattle.rules.specs.State.{State, live, pointer, store, write}
 use Rattle.rules.specs.Words.{is_unset}
-use Rattle.rules.specs.Check.{check}
+use Rattle.rules.specs.Check.{Answer, check}
 use Rattle.rules.specs.Commands.{act_of}
 use Rattle.rules.specs.Effect.{apply, count_field, effect, free, give}
 use Rattle.rules.specs.Log.{told_at}
@@ -70,9 +70,9 @@ Takes (Declined r) t = Unit {0}
 -- a field's answer lets the later fields decide, or stops
 next_tally : (at : ℕ) (k : Answer) (n : ℕ) (f : Field) (s : State) (later : Outcome) → Takes (told_at at later.verdict) (tally_of later.state)
     → Takes (told_at at (next k n f s later).verdict) (tally_of (next k n f s later).state)
-next_tally at Go n f s later h = h
-next_tally at (Race v) n f s later h = tt
-next_tally at (Refuse r) n f s later h = tt
+next_tally at (Ok _) n f s later h = h
+next_tally at (Err (Race v)) n f s later h = tt
+next_tally at (Err (Refuse r)) n f s later h = tt
 
 pub accepted_tally : (at : ℕ) (fs : List Field) (end : End) (s : State) → Takes (told_at at (run_to end fs s).verdict) (tally_of (run_to end fs s).state)
 accepted_tally at [] whole s = refl

@@ -1,6 +1,7 @@
 -- The starred log cases of document 01, and those of the orders: one table, and one statement over it.
 -- Assumes nothing.
-use Rattle.std.specs.Prelude.{ℕ, ◌≡◌, refl, Bool, true, false, ◌&&◌, List, [], ◌∷◌, ◌++◌, eqb, T, get_or}
+use Rattle.std.specs.Prelude.{ℕ, ◌≡◌, refl, Bool, true, false, ◌&&◌, List, [], ◌∷◌, ◌++◌, eqb, T, get_or, codes}
+use Rattle.std.specs.Fmt.{digits}
 use Rattle.fields.specs.declared.Field.{Field}
 use Rattle.fields.specs.Limits.{log_fields}
 use Rattle.fields.specs.Rows.{row_of, is_tag, widths_of, length_of}
@@ -20,7 +21,7 @@ use Rattle.rules.specs.Effect.{give, free, count_field}
 use Rattle.rules.specs.Run.{run}
 use Rattle.rules.specs.Log.{located, run_bytes}
 use Rattle.rules.specs.Replay.{bytes_of, replay, starting_data}
-use Rattle.rules.specs.Verdicts.{accepted, race, refused, Line, line, line_of}
+use Rattle.rules.specs.Verdicts.{accepted, race, refused, Line, line, line_of, text_of}
 
 -- what a case tells besides its verdict: a word or a number of the state that is left, or a field
 pub data Fact : Type 0 where
@@ -204,3 +205,8 @@ bytes_c =
 pub bytes_c-race : line_of (located bytes_c (run_bytes log_fields bytes_c fresh).verdict) ≡ line race (3 ∷ 1 ∷ 24 ∷ 22 ∷ [])
 unfolding row_of is_tag widths_of length_of may_name field_of read_field is_valid cell_of is_unset invalidated after_free fresh write store command_of same_as_wanted check_by give free count_field
 bytes_c-race = refl
+
+-- and what is printed of it
+pub text_of_c : text_of (line race (3 ∷ 1 ∷ 24 ∷ 22 ∷ [])) ≡ codes "race 3 1 24 22"
+unfolding digits
+text_of_c = refl

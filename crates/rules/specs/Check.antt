@@ -1,6 +1,6 @@
 -- The checks of one field against the heap, in their order: 11, race, 12, 13, 14.
 -- What is called a race is given to them as tests, so that another reading calls other things so. Assumes nothing.
-use Rattle.std.specs.Prelude.{ℕ, Bool, true, false, not, List, [], ◌∷◌, ◌++◌, eqb, ltb}
+use Rattle.std.specs.Prelude.{ℕ, Bool, true, false, not, List, [], ◌∷◌, ◌++◌, eqb, ltb, Result, Ok, Err, ⊤}
 use Rattle.fields.specs.declared.RecordedCell.{RecordedCell}
 use Rattle.fields.specs.declared.Refusal.TheVariants.{TooManyMallocs, UnsetPointer, LiveCell, AssertionFails}
 use Rattle.fields.specs.Limits.{log_mallocs}
@@ -8,11 +8,15 @@ use Rattle.fields.specs.Order.{Test, test, in_order}
 use Rattle.rules.specs.declared.Guard.{Guard}
 use Rattle.rules.specs.declared.Guard.TheVariants.{Always, Same, Equal}
 use Rattle.rules.specs.declared.Act.{Act}
-use Rattle.rules.specs.declared.Answer.{Answer}
-use Rattle.rules.specs.declared.Answer.TheVariants.{Go, Race, Refuse}
+use Rattle.rules.specs.declared.Stop.{Stop}
+use Rattle.rules.specs.declared.Stop.TheVariants.{Race, Refuse}
 use Rattle.rules.specs.Words.{is_valid, cell_of, is_unset, word_at}
 use Rattle.rules.specs.State.{State, live, pointer, status_of, number_at}
 use Rattle.rules.specs.Acts.{touched, through, gives}
+
+-- what the checks of one field say: that it passes, or why the run stops there
+abbrev pub Answer : Type 0
+Answer = Result ⊤ Stop
 
 -- one test for each of a list
 abbrev pub each : {K A : Type 0} → (K → Bool) → (K → A) → List K → List (Test A)
@@ -51,9 +55,9 @@ holds_in pointers variables (Equal wanted x y) = as_wanted wanted (eqb (number_a
 abbrev pub holds : State → Guard → Bool
 holds s g = holds_in s.pointers s.variables g
 
-unfoldable pub check_by : List (Test Answer) → Act → State → Answer
+unfoldable pub check_by : List (Test Stop) → Act → State → Answer
 check_by races a s =
-    in_order (λ answer. answer) Go
+    in_order Err (Ok tt)
     (each (room_for s) (λ c. Refuse TooManyMallocs) (gives a.change)
     ++ (races
     ++ (each (points s) (λ p. Refuse UnsetPointer) (through a.change)

@@ -1,15 +1,15 @@
 -- A log as bytes: fields one after another, at most n of them (3), each read at the front of the bytes that remain.
 -- Assumes nothing.
-use Rattle.std.specs.Prelude.{ℕ, zero, suc, ◌+◌, List, [], ◌∷◌, drop}
+use Rattle.std.specs.Prelude.{ℕ, zero, suc, ◌+◌, List, [], ◌∷◌, drop, Ok, Err}
 use Rattle.fields.specs.declared.Field.{Field}
 use Rattle.fields.specs.declared.Refusal.TheVariants.{TooManyFields}
 use Rattle.fields.specs.Limits.{header_bytes}
 use Rattle.fields.specs.Rows.{length_of}
-use Rattle.fields.specs.Read.{Reading, Got, Refused, read_field, tag_in}
+use Rattle.fields.specs.Read.{Reading, read_field, tag_in}
 use Rattle.rules.specs.declared.Verdict.{Verdict}
 use Rattle.rules.specs.declared.Verdict.TheVariants as told
 use Rattle.rules.specs.State.{State}
-use Rattle.rules.specs.Run.{End, whole, unread, Ending, Accepted, Raced, Refused as Stopped, Outcome, run_to}
+use Rattle.rules.specs.Run.{End, whole, unread, Ending, Accepted, Raced, Refused, Outcome, run_to}
 
 pub record Parsed : Type 0 where
   pub fields : List Field
@@ -20,10 +20,10 @@ no_fields end = record { fields = []; end = end }
 
 -- what was read at the front of bytes, and what the rest of them parses as
 abbrev pub onward : Reading → List ℕ → (List ℕ → Parsed) → Parsed
-onward (Got f) bytes parse_rest =
+onward (Ok f) bytes parse_rest =
     let rest = parse_rest (drop (header_bytes + length_of f.tag) bytes) in
     record { fields = f ∷ rest.fields; end = rest.end }
-onward (Refused r) bytes parse_rest = no_fields (unread r)
+onward (Err r) bytes parse_rest = no_fields (unread r)
 
 abbrev pub parse : ℕ → List ℕ → Parsed
 parse zero [] = no_fields whole
@@ -43,13 +43,13 @@ offset_of (suc n) bytes = let size = header_bytes + length_of (tag_in bytes) in 
 abbrev pub end_field : Ending → ℕ
 end_field (Accepted fields mallocs live) = fields
 end_field (Raced field thread variable) = field
-end_field (Stopped r field) = field
+end_field (Refused r field) = field
 
 -- the ending as it is told: a stop with the byte offset of its field
 abbrev pub told_at : ℕ → Ending → Verdict
 told_at offset (Accepted fields mallocs live) = told.Accepted fields mallocs live
 told_at offset (Raced field thread variable) = told.Raced field thread variable offset
-told_at offset (Stopped r field) = told.Refused r field offset
+told_at offset (Refused r field) = told.Refused r field offset
 
 abbrev pub located : List ℕ → Ending → Verdict
 located log ending = told_at (offset_of (end_field ending) log) ending

@@ -1,12 +1,11 @@
 -- Demand 3: when the state S of a replay matches the state R of the recording, and what it is to match after each field.
 -- Assumes nothing.
-use Rattle.std.specs.Prelude.{ℕ, ◌+◌, ◌*◌, ◌/◌, ◌%◌, ◌≡◌, true, ◌⊎◌, List, [], ◌∷◌}
+use Rattle.std.specs.Prelude.{ℕ, ◌+◌, ◌*◌, ◌/◌, ◌%◌, ◌≡◌, true, ◌⊎◌, List, [], ◌∷◌, Ok}
 use Rattle.fields.specs.declared.Field.{Field}
 use Rattle.fields.specs.declared.RecordedCell.{RecordedCell}
 use Rattle.rules.specs.declared.ReplayCell.{ReplayCell}
 use Rattle.rules.specs.declared.Place.{Place}
 use Rattle.rules.specs.declared.Place.TheVariants.{PointerWord, SelectorWord}
-use Rattle.rules.specs.declared.Answer.TheVariants.{Go}
 use Rattle.rules.specs.Words.{unset, is_valid}
 use Rattle.rules.specs.State.{State, live, status_of, number_at, word}
 use Rattle.rules.specs.Acts.{gives}
@@ -52,6 +51,6 @@ Along X [] (g ∷ gs) R S m = ⊥
 Along X (f ∷ fs) [] R S m = ⊥
 Along X (f ∷ fs) (g ∷ gs) R S m =
     X R S m
-    × (check (act_of f) R ≡ Go)
-    × (check (act_of g) S ≡ Go)
+    × (check (act_of f) R ≡ Ok tt)
+    × (check (act_of g) S ≡ Ok tt)
     × Along X fs gs (effect (act_of f) R) (effect (act_of g) S) (rematch (gives (act_of f).change) (gives (act_of g).change) m)

@@ -7,13 +7,12 @@ use Rattle.fields.specs.Every.{Every}
 use Rattle.rules.specs.declared.Change.{Change}
 use Rattle.rules.specs.declared.Change.TheVariants.{Stay, Allocate, Release, Move, Put}
 use Rattle.rules.specs.declared.Act.{Act}
-use Rattle.rules.specs.declared.Answer.{Answer}
-use Rattle.rules.specs.declared.Answer.TheVariants.{Race}
+use Rattle.rules.specs.declared.Stop.TheVariants.{Race}
 use Rattle.rules.specs.Words.{cell_of, is_unset}
 use Rattle.rules.specs.State.{State, freed, with_status, pointer, status_of}
 use Rattle.rules.specs.Acts.{touched, gives}
 use Rattle.rules.specs.Commands.{act_of}
-use Rattle.rules.specs.Check.{each, check_by}
+use Rattle.rules.specs.Check.{Answer, each, check_by}
 use Rattle.rules.specs.Effect.{apply, count_field}
 use Rattle.rules.specs.Run.{End, Outcome, run_by}
 use Rattle.rules.specs.Log.{parse}

@@ -1,15 +1,14 @@
 -- The run over the fields of a log: the first field that stops ends it, and leaves the state before that field.
 -- Assumes nothing.
-use Rattle.std.specs.Prelude.{ℕ, ◌+◌, cond, List, [], ◌∷◌, eqb}
+use Rattle.std.specs.Prelude.{ℕ, ◌+◌, cond, List, [], ◌∷◌, eqb, Ok, Err}
 use Rattle.fields.specs.declared.Field.{Field}
 use Rattle.fields.specs.declared.Refusal.{Refusal}
 use Rattle.rules.specs.declared.Act.{Act}
-use Rattle.rules.specs.declared.Answer.{Answer}
-use Rattle.rules.specs.declared.Answer.TheVariants.{Go, Race, Refuse}
+use Rattle.rules.specs.declared.Stop.TheVariants.{Race, Refuse}
 use Rattle.rules.specs.declared.Tally.{Tally}
 use Rattle.rules.specs.State.{State, live}
 use Rattle.rules.specs.Commands.{act_of}
-use Rattle.rules.specs.Check.{check}
+use Rattle.rules.specs.Check.{Answer, check}
 use Rattle.rules.specs.Effect.{effect}
 
 -- what is judged is a state, or holds one beside what other rules need
@@ -51,9 +50,9 @@ end_verdict (unread r) s = Refused r s.fields
 
 -- the outcome at field n, being f, by its answer: a stop leaves s, else the later fields decide
 abbrev pub next : {S : Type 0} → Answer → ℕ → Field → S → OutcomeOf S → OutcomeOf S
-next Go n f s later = later
-next (Race v) n f s later = record { verdict = Raced n f.thread v; state = s }
-next (Refuse r) n f s later = record { verdict = Refused r n; state = s }
+next (Ok _) n f s later = later
+next (Err (Race v)) n f s later = record { verdict = Raced n f.thread v; state = s }
+next (Err (Refuse r)) n f s later = record { verdict = Refused r n; state = s }
 
 abbrev pub run_by : {S : Type 0} → Rules S → End → List Field → S → OutcomeOf S
 run_by rules end [] s = record { verdict = end_verdict end (rules.state_in s); state = s }

@@ -1,9 +1,10 @@
 -- Showing one field's own bytes, header and value, of a recorded log or of its replay (order 3). Refused with 1, where the chosen
 -- log is too long, and 16, where the reading checks (3 to 11) stop or the log ends before that field is read; both with field 0
 -- and an empty part. What a field does plays no part: a field that races is shown. Assumes nothing.
-use Rattle.std.specs.Prelude.{ℕ, ◌+◌, cond, List, [], ◌∷◌, ◌≡◌, leb, ltb, drop, length, take}
+use Rattle.std.specs.Prelude.{ℕ, ◌+◌, cond, List, [], ◌∷◌, ◌≡◌, leb, ltb, drop, length, take, Result, Ok, Err}
 use Rattle.fields.specs.declared.Field.{Field}
 use Rattle.fields.specs.declared.RecordedCell.{RecordedCell}
+use Rattle.fields.specs.declared.Refusal.{Refusal}
 use Rattle.fields.specs.declared.Refusal.TheVariants.{FieldNotReached, LogTooLong}
 use Rattle.fields.specs.Bytes.{total}
 use Rattle.fields.specs.Limits.{header_bytes, log_bytes, log_fields, log_mallocs}
@@ -12,8 +13,7 @@ use Rattle.fields.specs.Read.{field_of, tag_in, value_in}
 use Rattle.fields.specs.Rows.{length_of, row_of, widths_of}
 use Rattle.rules.specs.declared.Choice.{Choice}
 use Rattle.rules.specs.declared.Choice.TheVariants.{Recording, Replay}
-use Rattle.rules.specs.declared.Shown.{Shown}
-use Rattle.rules.specs.declared.Shown.TheVariants.{Part, Refused}
+use Rattle.rules.specs.declared.Part.{Part}
 use Rattle.rules.specs.Acts.{gives}
 use Rattle.rules.specs.Commands.{act_of}
 use Rattle.rules.specs.Log.{offset_of, parse}
@@ -41,16 +41,20 @@ fields_read log = roomy 0 (parse log_fields log).fields
 abbrev pub size_in : List ℕ → ℕ
 size_in part = header_bytes + length_of (tag_in part)
 
+-- a part, or a refusal and its field
+abbrev pub Shown : Type 0
+Shown = Result Part (Refusal × ℕ)
+
 unfoldable pub shown_in : List ℕ → ℕ → Shown
 shown_in log n =
-    in_order (λ r. Refused r 0) (Part (offset_of n log) (size_in (drop (offset_of n log) log)))
+    in_order (λ r. Err (r, 0)) (Ok (record { at = offset_of n log; size = size_in (drop (offset_of n log) log) }))
     (test (leb (length log) log_bytes) LogTooLong
     ∷ test (ltb n (length (fields_read log))) FieldNotReached
     ∷ [])
 
 abbrev pub part_by : Shown → List ℕ → List ℕ
-part_by (Part at size) log = take size (drop at log)
-part_by (Refused r field) log = []
+part_by (Ok part) log = take part.size (drop part.at log)
+part_by (Err refusal) log = []
 
 abbrev pub part_in : List ℕ → ℕ → List ℕ
 part_in log n = part_by (shown_in log n) log

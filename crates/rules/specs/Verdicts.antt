@@ -1,6 +1,7 @@
 -- What document 01 gives for every verdict: its word, as the program prints it, and its numbers.
 -- Assumes nothing.
-use Rattle.std.specs.Prelude.{ℕ, List, [], ◌∷◌, ◌++◌, length, replicate, take}
+use Rattle.std.specs.Prelude.{ℕ, List, [], ◌∷◌, ◌++◌, length, replicate, take, codes}
+use Rattle.std.specs.Fmt.{decimal}
 use Rattle.fields.specs.Refusals.{number_of}
 use Rattle.rules.specs.declared.Printed.{Printed}
 use Rattle.rules.specs.declared.Verdict.{Verdict}
@@ -8,13 +9,13 @@ use Rattle.rules.specs.declared.Verdict.TheVariants.{Accepted, Raced, Refused, D
 
 -- ---- the words, in ASCII
 abbrev pub accepted : List ℕ
-accepted = 97 ∷ 99 ∷ 99 ∷ 101 ∷ 112 ∷ 116 ∷ 101 ∷ 100 ∷ []
+accepted = codes "accepted"
 
 abbrev pub race : List ℕ
-race = 114 ∷ 97 ∷ 99 ∷ 101 ∷ []
+race = codes "race"
 
 abbrev pub refused : List ℕ
-refused = 114 ∷ 101 ∷ 102 ∷ 117 ∷ 115 ∷ 101 ∷ 100 ∷ []
+refused = codes "refused"
 
 pub record Line : Type 0 where
   pub word : List ℕ
@@ -28,6 +29,14 @@ line_of (Accepted fields mallocs live) = line accepted (fields ∷ mallocs ∷ l
 line_of (Raced field thread variable offset) = line race (field ∷ thread ∷ variable ∷ offset ∷ [])
 line_of (Refused r field offset) = line refused (number_of r ∷ field ∷ offset ∷ [])
 line_of (Declined r) = line refused (number_of r ∷ 0 ∷ [])
+
+-- ---- the line as it is printed: its word, and each number in decimal after one space
+abbrev pub spaced : List ℕ → List ℕ
+spaced [] = []
+spaced (n ∷ ns) = 32 ∷ decimal n ++ spaced ns
+
+abbrev pub text_of : Line → List ℕ
+text_of l = l.word ++ spaced l.numbers
 
 -- ---- the line in arrays, as code holds it: each list at the front, and 0 after it
 abbrev pub padded : ℕ → List ℕ → List ℕ

@@ -2,13 +2,15 @@
 // The rules are the definitions in specs/, in the words of docs/01-scope.md; the code that goes by them is in other crates.
 #![tactic(auto)]
 
-ghost use Rattle.std.specs.Prelude.{◌≡◌};
+ghost use Rattle.std.specs.Prelude.{◌≡◌, Some};
 ghost use Rattle.rules.specs.State.{fresh_board, fresh_heap, fresh_tally};
-ghost use Rattle.rules.specs.Verdicts.{printed_of};
+ghost use Rattle.rules.specs.Verdicts.{line_of, printed_of, text_of};
 
 use fields::{Field, RecordedCell, Refusal};
+use std::fmt;
 
 // Both sets of variables. It is handed in whole and handed back whole.
+// Stays arrays by value with a constructor `fresh`: docs/01-scope.md names these forms.
 #[derive(Clone, Copy)]
 pub struct Board {
     pub pointers: [u16; Board::POINTERS],
@@ -31,6 +33,7 @@ impl Board {
 }
 
 // The cells: the selector words of cell a at 2a and 2a + 1, its data number and its status at a.
+// Stays three arrays, and words and statuses stay numbers: C lends them so.
 #[derive(Clone, Copy)]
 pub struct Heap {
     pub selectors: [u16; Heap::SELECTORS],
@@ -67,7 +70,7 @@ impl Heap {
 }
 
 // Fields done, mallocs done, and the cells that are live.
-#[derive(Clone, Copy)]
+#[derive(Clone, Copy, PartialEq, Eq)]
 pub struct Tally {
     pub fields: u32,
     pub mallocs: u32,
@@ -87,10 +90,12 @@ impl Tally {
 }
 
 // A cell number of a replay. The matching alone joins it to a recorded cell.
+// Stays a type beside RecordedCell: docs/01-scope.md names this form.
 #[derive(Clone, Copy)]
 pub struct ReplayCell(pub u16);
 
 // p, or p.sel
+// Stays a type beside DExp: the paper has two kinds of expression, and `place` and `data_place` (specs/Acts.antt) take one each.
 #[derive(Clone, Copy)]
 pub enum PExp {
     PointerVariable(u8),
@@ -113,6 +118,7 @@ pub enum Value {
 }
 
 // What is asserted: nothing; that two pointers are the same, or (false) that they are not; that two numbers are equal, or not.
+// Stays a bool in each: `as_wanted` (specs/Check.antt) takes it as what is wanted.
 #[derive(Clone, Copy)]
 pub enum Guard {
     Always,
@@ -138,6 +144,7 @@ pub struct Act {
 }
 
 // Where a pointer word lies: among the pointer variables, or among the selectors.
+// Stays a type beside DataPlace: `write` and `store` (specs/State.antt) take one each, so that no data number is put where a word lies.
 #[derive(Clone, Copy)]
 pub enum Place {
     PointerWord(usize),
@@ -151,13 +158,15 @@ pub enum DataPlace {
     CellNumber(usize),
 }
 
-// What the checks of one field against the heap say: it passes, it races at a variable, or it is refused.
+// Why a field does not pass: it races at a variable, or it is refused.
 #[derive(Clone, Copy)]
-pub enum Answer {
-    Go,
+pub enum Stop {
     Race(u8),
     Refuse(Refusal),
 }
+
+// What the checks of one field against the heap say.
+pub type Answer = Result<(), Stop>;
 
 // What is said of a log: fields, mallocs and live cells; field, thread, variable and byte offset of a race; a refusal met at a field,
 // the field and its byte offset; a refusal of the whole call, which is met at no field.
@@ -170,6 +179,7 @@ pub enum Verdict {
 }
 
 // A verdict as it is printed: a word and its numbers, of which the first so many count; the rest of each is 0.
+// Stays arrays with their counts: no heap, and the C interface hands the numbers on.
 #[derive(Clone, Copy)]
 pub struct Printed {
     pub word: [u8; Printed::LETTERS],
@@ -217,6 +227,31 @@ impl Verdict {
     }
 }
 
+// The line that is printed for a verdict, without its newline.
+impl fmt::Display for Verdict {
+    ghost output = { λ verdict. Some (text_of (line_of verdict)) };
+
+    #[tactic(auto, using(std::proofs::lemmas::Fmt::decimal_digit))]
+    fn fmt<W: fmt::Write>(&self, f: &mut fmt::Formatter<W>) -> fmt::Result {
+        match *self {
+            Verdict::Accepted(fields, mallocs, live) => {
+                write!(f, "accepted {fields} {mallocs} {live}")
+            }
+            Verdict::Raced(field, thread, variable, offset) => {
+                write!(f, "race {field} {thread} {variable} {offset}")
+            }
+            Verdict::Refused(why, field, offset) => {
+                let number = why.number();
+                write!(f, "refused {number} {field} {offset}")
+            }
+            Verdict::Declined(why) => {
+                let number = why.number();
+                write!(f, "refused {number} 0")
+            }
+        }
+    }
+}
+
 // Which of two logs a field is shown of.
 #[derive(Clone, Copy)]
 pub enum Choice {
@@ -224,10 +259,12 @@ pub enum Choice {
     Replay,
 }
 
-// What is said where a field's bytes are asked for: the place in the log where they begin and how many they are, or a refusal and
-// its field.
+// A part of a log: the place where it begins, and how many bytes it has.
 #[derive(Clone, Copy)]
-pub enum Shown {
-    Part(usize, usize),
-    Refused(Refusal, u32),
+pub struct Part {
+    pub at: usize,
+    pub size: usize,
 }
+
+// What is said where a field's bytes are asked for: the part that they are, or a refusal and its field.
+pub type Shown = Result<Part, (Refusal, u32)>;

@@ -4,8 +4,7 @@ use Prim.Native.Nat.{ℕ}
 use mathlib.Core.List.{List}
 use mathlib.Core.Path.{◌≡◌, ◌∙◌, sym}
 use Rattle.rules.specs.declared.Choice.{Choice}
-use Rattle.rules.specs.declared.Shown.{Shown}
-use Rattle.rules.specs.Showing.{chosen, part_by, part_in, shown_in}
+use Rattle.rules.specs.Showing.{Shown, chosen, part_by, part_in, shown_in}
 
 module _ (recorded replay : List ℕ) (choice : Choice) (n : ℕ) where
   pub one_answer : (a a' : Shown) → a ≡ shown_in (chosen choice recorded replay) n → a' ≡ shown_in (chosen choice recorded replay) n → a ≡ a'

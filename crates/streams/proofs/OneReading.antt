@@ -1,18 +1,17 @@
 -- What the system answered determines what was read: two results that the contract of `read_into` allows, by the same calls, are equal.
 -- Assumes nothing.
 use Prim.Native.Nat.{ℕ, ◌≤◌, ◌<◌}
-use lib.Dec.{T}
 use lib.ListN.{length, take}
 use lib.Seq.{length-take-le}
-use mathlib.Core.Bool.{Bool, true, false}
+use mathlib.Core.Bool.{true}
 use mathlib.Core.List.{List, [], ◌∷◌}
 use mathlib.Core.Logic.{inl, inr}
-use mathlib.Core.Path.{◌≡◌, refl, sym, ap, subst, ◌∙◌}
+use mathlib.Core.Path.{◌≡◌, refl, sym, ap, ◌∙◌}
 use native.Mathlib.Omega.{arith}
-use Rattle.streams.specs.Answers.{AllGoOn, calls, stops}
-use Rattle.streams.specs.Reading.{Call, Last, StopsBy, answers, brought}
-use Rattle.streams.specs.declared.answers.Answer.{Answer}
-use Rattle.streams.specs.declared.answers.Answer.TheVariants.{Moved, Nothing, Interrupted, Failed}
+use Rattle.std.specs.Prelude.{Ok, Err, not}
+use Rattle.std.specs.declared.io.Error.{Error}
+use Rattle.streams.specs.Answers.{AllGoOn, Answer, calls, stops}
+use Rattle.streams.specs.Reading.{Call, Last, LastFailed, StopsBy, answers, brought, is_full, is_read}
 use Rattle.streams.specs.declared.reading.Stop.{Stop}
 use Rattle.streams.specs.declared.reading.Stop.TheVariants.{Full, Ended, Broken}
 
@@ -23,37 +22,50 @@ same_bytes made xs ys m n inside inside' p q = (sym (length-take-le m xs inside)
 -- after an answer that stops nothing went on
 no_more : (a : Answer) (made : List Call) → stops a ≡ true → Last a made → AllGoOn (answers made) → ⊥
 no_more a [] stop last on = absurd last
-no_more a (call ∷ earlier) stop last on = subst T (sym stop ∙ ap stops (sym last.0) ∙ on.0) tt
+no_more a (call ∷ earlier) stop last on =
+    let same = last.0 in
+    let goes = on.0 in
+    let bad = sym (ap stops same ∙ stop) ∙ goes in
+    cc
 
-no_both : (made : List Call) → Last Nothing made → Last Failed made → ⊥
-no_both [] last other = absurd last
-no_both (call ∷ earlier) last other = subst T (ap is-nothing (sym last.0 ∙ other.0)) tt
-  where
-    is-nothing : Answer → Bool
-    is-nothing (Moved n) = false
-    is-nothing Nothing = true
-    is-nothing Interrupted = false
-    is-nothing Failed = false
+not_failed : (e : Error) (made : List Call) → LastFailed e made → AllGoOn (answers made) → ⊥
+not_failed e made failed on = no_more (Err e) made (ap not failed.0) failed.1 on
 
-short : (n : ℕ) → n < calls → n ≡ calls → ⊥
-short n few all = omega (arith, few, all)
+-- one call has one answer
+one_answer : (a b : Answer) (made : List Call) → Last a made → Last b made → a ≡ b
+one_answer a b [] last other = absurd last
+one_answer a b (call ∷ earlier) last other = sym last.0 ∙ other.0
 
--- a stop is one only
-full_broken : (room : ℕ) (made : List Call) → StopsBy Full room made → StopsBy Broken room made → ⊥
-full_broken room made full (inl failed) = no_more Failed made refl failed full.0
-full_broken room made full (inr all) = short (length made) full.2 all.1
+no_both : (e : Error) (made : List Call) → Last (Ok 0) made → Last (Err e) made → ⊥
+no_both e made last other = let same = one_answer (Ok 0) (Err e) made last other in cc
 
-ended_broken : (room : ℕ) (made : List Call) → StopsBy Ended room made → StopsBy Broken room made → ⊥
-ended_broken room made ended (inl failed) = no_both made ended failed
-ended_broken room made ended (inr all) = no_more Nothing made refl ended all.0
+-- the same kind of stop; and the same error, but where it is that too many calls were made
+abbrev Same : List Call → Stop → Stop → Type 0
+Same made s t = (is_full s ≡ is_full t) × (is_read s ≡ is_read t) × (length made < calls → s ≡ t)
 
-pub one_stop : (room : ℕ) (made : List Call) (s t : Stop) → StopsBy s room made → StopsBy t room made → s ≡ t
-one_stop room made Full Full p q = refl
-one_stop room made Full Ended p q = absurd (no_more Nothing made refl q p.0)
-one_stop room made Full Broken p q = absurd (full_broken room made p q)
-one_stop room made Ended Full p q = absurd (no_more Nothing made refl p q.0)
-one_stop room made Ended Ended p q = refl
-one_stop room made Ended Broken p q = absurd (ended_broken room made p q)
-one_stop room made Broken Full p q = absurd (full_broken room made q p)
-one_stop room made Broken Ended p q = absurd (ended_broken room made q p)
-one_stop room made Broken Broken p q = refl
+same : (made : List Call) (s : Stop) → Same made s s
+same made s = (refl, refl, λ _. refl)
+
+full_broken : (room : ℕ) (e : Error) (made : List Call) → StopsBy Full room made → StopsBy (Broken e) room made → ⊥
+full_broken room e made full (inl failed) = not_failed e made failed full.0
+full_broken room e made full (inr all) = omega (arith, full.2, all.1)
+
+ended_broken : (room : ℕ) (e : Error) (made : List Call) → StopsBy Ended room made → StopsBy (Broken e) room made → ⊥
+ended_broken room e made ended (inl failed) = no_both e made ended failed.1
+ended_broken room e made ended (inr all) = no_more (Ok 0) made refl ended all.0
+
+broken_both : (room : ℕ) (e f : Error) (made : List Call) → StopsBy (Broken e) room made → StopsBy (Broken f) room made → length made < calls → Broken e ≡ Broken f
+broken_both room e f made (inl p) (inl q) few = let one = one_answer (Err e) (Err f) made p.1 q.1 in cc
+broken_both room e f made (inl p) (inr q) few = absurd (omega (arith, few, q.1))
+broken_both room e f made (inr p) q few = absurd (omega (arith, few, p.1))
+
+pub one_stop : (room : ℕ) (made : List Call) (s t : Stop) → StopsBy s room made → StopsBy t room made → (is_full s ≡ is_full t) × (is_read s ≡ is_read t) × (length made < calls → s ≡ t)
+one_stop room made Full Full p q = same made Full
+one_stop room made Full Ended p q = absurd (no_more (Ok 0) made refl q p.0)
+one_stop room made Full (Broken e) p q = absurd (full_broken room e made p q)
+one_stop room made Ended Full p q = absurd (no_more (Ok 0) made refl p q.0)
+one_stop room made Ended Ended p q = same made Ended
+one_stop room made Ended (Broken e) p q = absurd (ended_broken room e made p q)
+one_stop room made (Broken e) Full p q = absurd (full_broken room e made q p)
+one_stop room made (Broken e) Ended p q = absurd (ended_broken room e made q p)
+one_stop room made (Broken e) (Broken f) p q = (refl, refl, broken_both room e f made p q)

@@ -1,48 +1,41 @@
 -- What reading into a buffer gives, by what the system answered to each call.
 -- Assumes nothing.
-use Rattle.std.specs.Prelude.{ℕ, ◌<◌, Bool, true, false, List, [], ◌∷◌, ◌++◌, ◌⊎◌, ◌≡◌, ℤ, length, take}
-use Rattle.streams.specs.Answers.{AllGoOn, answer_of, calls, moved_of}
-use Rattle.streams.specs.declared.answers.Answer.{Answer}
-use Rattle.streams.specs.declared.answers.Answer.TheVariants.{Moved, Nothing, Interrupted, Failed}
+use Rattle.std.specs.Prelude.{ℕ, ◌<◌, Bool, true, false, List, [], ◌∷◌, ◌++◌, ◌⊎◌, ◌≡◌, Result, Ok, Err, length, take}
+use Rattle.std.specs.declared.io.Error.{Error}
+use Rattle.streams.specs.Answers.{AllGoOn, Answer, calls, is_interrupted, moved_of}
+use Rattle.streams.specs.declared.reading.Filled.{Filled}
 use Rattle.streams.specs.declared.reading.Stop.{Stop}
 use Rattle.streams.specs.declared.reading.Stop.TheVariants.{Full, Ended, Broken}
 
--- one call of read: its number, errno after it, and what the lent part of the buffer holds after it
+-- one call of read: its answer, and what the lent part of the buffer holds after it
 pub record Call : Type 0 where
-  pub got : ℤ
-  pub error : ℤ
+  pub answer : Answer
   pub part : List ℕ
-
-abbrev pub answer : Call → Answer
-answer call = answer_of call.got call.error
 
 -- every byte that the calls brought, in their order; the list has the latest call first
 abbrev pub brought : List Call → List ℕ
 brought [] = []
-brought (call ∷ earlier) = brought earlier ++ take (moved_of (answer call)) call.part
+brought (call ∷ earlier) = brought earlier ++ take (moved_of call.answer) call.part
 
 abbrev pub answers : List Call → List Answer
 answers [] = []
-answers (call ∷ earlier) = answer call ∷ answers earlier
+answers (call ∷ earlier) = call.answer ∷ answers earlier
 
 -- the answer that the latest call got
 abbrev pub Last : Answer → List Call → Type 0
 Last a [] = ⊥
-Last a (call ∷ earlier) = (answer call ≡ a) × AllGoOn (answers earlier)
+Last a (call ∷ earlier) = (call.answer ≡ a) × AllGoOn (answers earlier)
+
+-- the latest call failed by this error, and no signal had come
+abbrev pub LastFailed : Error → List Call → Type 0
+LastFailed e made = (is_interrupted e ≡ false) × Last (Err e) made
 
 -- why no more was read, the room being the buffer's length. An end is one that a call answered, and before it there were only
 -- bytes and interrupted calls; a full buffer needs no end.
 abbrev pub StopsBy : Stop → ℕ → List Call → Type 0
 StopsBy Full room made = AllGoOn (answers made) × (length (brought made) ≡ room) × (length made < calls)
-StopsBy Ended room made = Last Nothing made
-StopsBy Broken room made = Last Failed made ⊎ (AllGoOn (answers made) × (length made ≡ calls))
-
--- of an answer after which nothing more is read
-abbrev pub stop_of : Answer → Stop
-stop_of (Moved n) = Broken
-stop_of Nothing = Ended
-stop_of Interrupted = Broken
-stop_of Failed = Broken
+StopsBy Ended room made = Last (Ok 0) made
+StopsBy (Broken e) room made = LastFailed e made ⊎ (AllGoOn (answers made) × (length made ≡ calls))
 
 -- a buffer after reading, how many bytes at its start were read, and why no more: these are all the bytes that the calls brought
 abbrev pub ReadsBy : List ℕ → ℕ → Stop → Type 0
@@ -52,9 +45,13 @@ ReadsBy buffer count stop = (made : List Call) × (take count buffer ≡ brought
 abbrev pub is_read : Stop → Bool
 is_read Full = true
 is_read Ended = true
-is_read Broken = false
+is_read (Broken e) = false
 
 abbrev pub is_full : Stop → Bool
 is_full Full = true
 is_full Ended = false
-is_full Broken = false
+is_full (Broken e) = false
+
+-- how many bytes were read, where all that was asked for was; else why not
+abbrev pub whole_of : Filled → Result ℕ Error
+whole_of filled = elim filled.stop [ Full ↦ Ok filled.length | Ended ↦ Ok filled.length | Broken e ↦ Err e ]

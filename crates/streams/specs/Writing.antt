@@ -1,8 +1,7 @@
 -- Whether all of a slice was written, by what the system answered to each call; a list of answers has the latest first.
 -- Assumes nothing.
 use Rattle.std.specs.Prelude.{ℕ, ◌+◌, ◌<◌, Bool, true, false, List, [], ◌∷◌, ◌⊎◌, ◌≡◌, length}
-use Rattle.streams.specs.Answers.{AllGoOn, calls, moved_of, stops}
-use Rattle.streams.specs.declared.answers.Answer.{Answer}
+use Rattle.streams.specs.Answers.{AllGoOn, Answer, calls, moved_of, stops}
 
 abbrev pub all_moved : List Answer → ℕ
 all_moved [] = 0

@@ -2,15 +2,24 @@
 // says what they did where they fail, and `read_to_end` has no room that it keeps to; here each answer of the system is told apart.
 #![tactic(auto)]
 
-mod answers;
+mod line;
 mod reading;
 mod writing;
 
-pub use reading::{Filled, Stop, is_full, read_into};
+ghost use Rattle.streams.specs.Answers.{is_interrupted};
+ghost use Rattle.std.specs.Prelude.{◌≡◌};
+
+pub use line::{Line, write_line};
+pub use reading::{Filled, Stop, read_into};
+use std::io::{Error, ErrorKind};
 pub use writing::write_whole;
 
-// More calls than any input or output takes. One that takes so many has failed.
-const CALLS: u64 = 0xffff_ffff_ffff_ffff;
+// Whether a signal came before the call moved a byte.
+fn is_interrupted(error: Error) -> bool
+    ensures { result ≡ is_interrupted error }
+{
+    matches!(error.kind(), ErrorKind::Interrupted)
+}
 
 #[cfg(test)]
 mod tests;

@@ -1,6 +1,6 @@
 // What no clause can say: that a call can succeed, and that a read or a write which fails or is interrupted in mid-stream is told
 // apart from an end.
-use super::{Filled, is_full, read_into, write_whole};
+use super::{Filled, Line, Stop, read_into, write_whole};
 use std::io;
 use std::io::{ErrorKind, Read, Write};
 
@@ -77,10 +77,7 @@ fn read_by(turns: [Turn; 4], bytes: &mut [u8]) -> Filled {
 
 // The system's number of the error, or 0.
 fn code_in(error: Option<io::Error>) -> i32 {
-    match error {
-        Some(error) => error.raw_os_error().unwrap_or(0),
-        None => 0,
-    }
+    error.and_then(|error| error.raw_os_error()).unwrap_or(0)
 }
 
 #[test]
@@ -94,8 +91,8 @@ fn reads_to_an_end_that_was_seen(rt: HostRuntime) {
     ];
     let read = read_by(turns, &mut bytes);
     assert_eq!(rt; read.length, 3);
-    assert!(rt; matches!(read.stop, super::Stop::Ended));
-    assert!(rt; read.error.is_none());
+    assert!(rt; matches!(read.stop, Stop::Ended));
+    assert!(rt; read.whole().is_ok());
     assert_eq!(rt; bytes, [1, 1, 3, 0, 0, 0]);
 }
 
@@ -110,8 +107,8 @@ fn reads_until_full(rt: HostRuntime) {
     ];
     let read = read_by(turns, &mut bytes);
     assert_eq!(rt; read.length, 6);
-    assert!(rt; is_full(read.stop));
-    assert!(rt; read.error.is_none());
+    assert!(rt; read.stop.is_full());
+    assert!(rt; read.whole().is_ok());
     assert_eq!(rt; bytes, [2, 2, 2, 2, 3, 3]);
 }
 
@@ -126,8 +123,8 @@ fn takes_no_failure_for_an_end(rt: HostRuntime) {
     ];
     let read = read_by(turns, &mut bytes);
     assert_eq!(rt; read.length, 3);
-    assert!(rt; matches!(read.stop, super::Stop::Broken));
-    assert_eq!(rt; code_in(read.error), 21);
+    assert!(rt; matches!(read.stop, Stop::Broken(_)));
+    assert_eq!(rt; code_in(read.whole().err()), 21);
     assert_eq!(rt; bytes, [1, 1, 2, 0, 0, 0]);
 }
 
@@ -178,4 +175,41 @@ fn tells_a_failed_write(rt: HostRuntime) {
     let put = write_whole(&mut writer, b"abcdef");
     assert!(rt; matches!(put, Err(error) if error.kind() == ErrorKind::WriteZero));
     assert_eq!(rt; writer.taken, 4);
+}
+
+#[test]
+fn writes_a_long_line_in_parts(rt: HostRuntime) -> io::Result<()> {
+    let turns = [
+        Turn::Moves(5_000),
+        Turn::Moves(5_000),
+        Turn::IsInterrupted,
+        Turn::Moves(5_000),
+    ];
+    let mut line = Line::new(Writer {
+        turns,
+        at: 0,
+        taken: 0,
+    });
+    line.write_all(&[b'x'; 9_000])?;
+    let writer = line.end()?;
+    assert_eq!(rt; writer.taken, 9_000);
+    assert_eq!(rt; writer.at, 4);
+    Ok(())
+}
+
+#[test]
+fn tells_a_line_that_is_cut_short(rt: HostRuntime) {
+    let turns = [
+        Turn::Moves(5_000),
+        Turn::Moves(1_000),
+        Turn::Fails(28),
+        Turn::Moves(5_000),
+    ];
+    let mut line = Line::new(Writer {
+        turns,
+        at: 0,
+        taken: 0,
+    });
+    let put = line.write_all(&[b'x'; 9_000]);
+    assert_eq!(rt; code_in(put.err()), 28);
 }

@@ -1,35 +1,39 @@
 // Writing all bytes of a slice.
+ghost use Rattle.std.specs.Io.KnownBytes.{Appends};
+ghost use Rattle.std.specs.Prelude.{◌≡◌, ◌≤◌, is_ok, length, OnOk, take};
 ghost use Rattle.streams.specs.Writing.{WritesBy};
-ghost use Rattle.std.specs.Prelude.{is_ok, length};
 
-use crate::CALLS;
-use crate::answers::{answer_to, is_last, moved};
+use crate::is_interrupted;
 use std::io;
 use std::io::{ErrorKind, Write};
 
-// Whether all of it was written. Where not, some of it may have been, and the error says why.
-pub fn write_whole<W: Write>(writer: &mut W, bytes: &[u8]) -> io::Result<()>
-    ensures { WritesBy (length bytes.now) (is_ok result) }
+// How many bytes from the front on were written, and whether these are all; where not, the error says why.
+pub fn write_front<W: Write>(writer: &mut W, bytes: &[u8]) -> (usize, io::Result<()>)
+    ensures front { result.0 ≤ length bytes.now }
+    ensures whole { OnOk result.1 (result.0 ≡ length bytes.now) }
+    ensures writes_by { WritesBy (length bytes.now) (is_ok result.1) }
+    ensures bytes { Appends (W.contents writer.old) (W.contents writer.new) (take result.0 bytes.now) }
 {
     let mut done = 0;
-    for _ in 0..CALLS {
+    for _ in 0..u64::MAX {
         if done == bytes.len() {
-            return Ok(());
+            return (done, Ok(()));
         }
-        let put = writer.write(&bytes[done..]);
-        let answer = answer_to(put);
-        if is_last(answer) {
-            return Err(error_of(put));
+        match writer.write(&bytes[done..]) {
+            Ok(0) => return (done, Err(io::Error::from(ErrorKind::WriteZero))),
+            Ok(count) => done += count,
+            Err(error) if is_interrupted(error) => {}
+            Err(error) => return (done, Err(error)),
         }
-        done += moved(answer);
     }
-    Err(io::Error::other("too many writes"))
+    (done, Err(io::Error::other("too many writes")))
 }
 
-// Why a write was the last; one that moved nothing gives no reason of its own.
-fn error_of(put: io::Result<usize>) -> io::Error {
-    match put {
-        Ok(_) => io::Error::from(ErrorKind::WriteZero),
-        Err(error) => error,
-    }
+// Whether all of it was written. Where not, some of it may have been, and the error says why.
+pub fn write_whole<W: Write>(writer: &mut W, bytes: &[u8]) -> io::Result<()>
+    ensures writes_by { WritesBy (length bytes.now) (is_ok result) }
+    ensures bytes { OnOk result (Appends (W.contents writer.old) (W.contents writer.new) bytes.now) }
+{
+    let (_, written) = write_front(writer, bytes);
+    written
 }

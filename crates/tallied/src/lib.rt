@@ -3,41 +3,26 @@
 #![tactic(auto)]
 
 ghost use Rattle.judge.specs.Judges.{Judges};
+ghost use Rattle.judge.specs.Lendings.{SameBuffers, lent_in};
 ghost use Rattle.judge.specs.Replays.{Replays};
 
+use judge::Buffers;
 use rules::{Tally, Verdict};
 
-pub fn judge(
-    log: &[u8],
-    pointers: &mut [u16],
-    selectors: &mut [u16],
-    variables: &mut [u32],
-    numbers: &mut [u32],
-    status: &mut [u8],
-    tally: &mut Tally,
-) -> Verdict
-    ensures { Judges log.now pointers.old selectors.old variables.old numbers.old status.old tally.old result tally.new pointers.new selectors.new variables.new numbers.new status.new }
+pub fn judge(log: &[u8], buffers: &mut Buffers<'_>, tally: &mut Tally) -> Verdict
+    ensures judges { Judges log.now (lent_in buffers.old tally.old) result (lent_in buffers.new tally.new) }
+    ensures same_buffers { SameBuffers buffers.old buffers.new }
 {
-    let j = judge::judge_log(log, pointers, selectors, variables, numbers, status, *tally);
-    *tally = j.tally;
-    j.verdict
+    let judged = judge::judge_log(log, buffers, *tally);
+    *tally = judged.tally;
+    judged.verdict
 }
 
-pub fn replay(
-    log: &[u8],
-    out: &mut [u8],
-    pointers: &mut [u16],
-    selectors: &mut [u16],
-    variables: &mut [u32],
-    numbers: &mut [u32],
-    status: &mut [u8],
-    tally: &mut Tally,
-) -> Verdict
-    ensures { Replays log.now out.old pointers.old selectors.old variables.old numbers.old status.old tally.old result tally.new out.new pointers.new selectors.new variables.new numbers.new status.new }
+pub fn replay(log: &[u8], out: &mut [u8], buffers: &mut Buffers<'_>, tally: &mut Tally) -> Verdict
+    ensures replays { Replays log.now out.old (lent_in buffers.old tally.old) result out.new (lent_in buffers.new tally.new) }
+    ensures same_buffers { SameBuffers buffers.old buffers.new }
 {
-    let j = judge::replay_log(
-        log, out, pointers, selectors, variables, numbers, status, *tally,
-    );
-    *tally = j.tally;
-    j.verdict
+    let judged = judge::replay_log(log, out, buffers, *tally);
+    *tally = judged.tally;
+    judged.verdict
 }

@@ -1,7 +1,7 @@
 -- Laws that speak of no heap: of tests, of what holds of every element, and of a list after a store.
 -- Assumes nothing.
 use Prim.Native.Nat.{◌<◌, suc, zero, ℕ}
-use mathlib.Core.Path.{◌∙◌, ◌≡◌, ap, refl, subst, sym}
+use mathlib.Core.Path.{◌∙◌, ◌≡◌, refl, subst, sym}
 use mathlib.Core.Bool.{Bool, ◌||◌, cond, false, true, true≢false}
 use mathlib.Core.List.{List, [], ◌∷◌, map}
 use borrow.Author.Tests.{eq-eqb, eqb-false, eqb-true, ne_eqb}
@@ -58,13 +58,3 @@ pub get_or-same : (n i a : ℕ) → get_or (replicate n a) i a ≡ a
 get_or-same zero i a = refl
 get_or-same (suc n) zero a = refl
 get_or-same (suc n) (suc i) a = get_or-same n i a
-
-pub map-set : (f : ℕ → ℕ) (l : List ℕ) (i a : ℕ) → map f (set l i a) ≡ set (map f l) i (f a)
-map-set f [] i a = refl
-map-set f (x ∷ l) zero a = refl
-map-set f (x ∷ l) (suc i) a = ap (λ (r : List ℕ). f x ∷ r) (map-set f l i a)
-
-pub set-get_or : (l : List ℕ) (i d a : ℕ) → get_or l i d ≡ a → set l i a ≡ l
-set-get_or [] i d a e = refl
-set-get_or (x ∷ l) zero d a e = ap (λ (y : ℕ). y ∷ l) (sym e)
-set-get_or (x ∷ l) (suc i) d a e = ap (λ (r : List ℕ). x ∷ r) (set-get_or l i d a e)

@@ -4,9 +4,9 @@ use Prim.Native.Nat.{◌*◌, ◌+◌, ℕ}
 use mathlib.Core.Path.{◌≡◌, refl}
 use mathlib.Core.Bool.{true}
 use mathlib.Core.List.{List, [], ◌++◌, ◌∷◌}
+use Rattle.std.specs.Prelude.{Ok}
 use Rattle.fields.specs.declared.Field.{Field}
 use Rattle.fields.specs.Numbers.{field_with}
-use Rattle.rules.specs.declared.Answer.TheVariants.{Go}
 use Rattle.rules.specs.declared.Guard.TheVariants.{Same}
 use Rattle.rules.specs.declared.Place.TheVariants.{PointerWord, SelectorWord}
 use Rattle.rules.specs.Words.{after_free, cell_of, invalidated, is_unset, is_valid}
@@ -41,7 +41,7 @@ module _ (t p q r : ℕ) where
   done_takes = both says_same says_copy refl
 
   -- the copy after the assertion passes, and leaves what done leaves, with one field more
-  pub copy_passes : (s : State) → check (act_of (copy_of t p r)) (effect (act_of asserted) s) ≡ Go
+  pub copy_passes : (s : State) → check (act_of (copy_of t p r)) (effect (act_of asserted) s) ≡ Ok tt
   unfolding command_of check_by
   copy_passes s = refl
 

@@ -5,10 +5,10 @@ use mathlib.Core.Path.{◌≡◌, refl, sym}
 use mathlib.Core.List.{List, [], ◌∷◌}
 use native.Mathlib.Omega.{arith}
 use lib.ListN.{length, length-append}
+use Rattle.std.specs.Prelude.{Ok}
 use Rattle.fields.specs.declared.Field.{Field}
 use Rattle.fields.specs.Limits.{log_fields}
 use Rattle.rules.specs.declared.Act.{Act}
-use Rattle.rules.specs.declared.Answer.TheVariants.{Go}
 use Rattle.rules.specs.State.{State, fresh}
 use Rattle.rules.specs.Acts.{gives}
 use Rattle.rules.specs.Check.{check}
@@ -34,10 +34,10 @@ added whole [] s n k l e =
     let k' : s.mallocs ≡ k = cc in
     let l' : live_count s.status ≡ l = cc in
     record { read = refl; fields = omega arith; mallocs = omega arith; live = sym l' }
-added (unread r) [] s n k l e = absurd (let z : ◌≡◌ {A = ℕ} 0 1 = cc in omega arith)
+added (unread r) [] s n k l e = cc
 added end (f ∷ fs) s n k l e =
     let a : Act = act_of f in
-    let here : check a s ≡ Go = next-accepted (check a s) f s (run_to end fs (effect a s)) n k l e in
+    let here : check a s ≡ Ok tt = next-accepted (check a s) f s (run_to end fs (effect a s)) n k l e in
     let later = added end fs (effect a s) n k l (rw here at e) in
     record {
       read = later.read;

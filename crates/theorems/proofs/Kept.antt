@@ -1,14 +1,15 @@
 -- Lemma 2 of source 004 along a run: each command that passes keeps the sizes of what is lent, and the invariant of Sound.
 -- Named is what the reading checks give: every variable below 80, every selector below 2, every cell below 1,024. Assumes nothing.
 use Prim.Native.Nat.{◌*◌, ◌+◌, ◌/◌, ◌<◌, ℕ}
-use mathlib.Core.Path.{◌∙◌, ◌≡◌, refl, subst, sym}
+use mathlib.Core.Path.{◌≡◌, subst, sym}
 use mathlib.Core.Bool.{false, true}
-use mathlib.Core.List.{List, [], ◌∷◌, map}
+use mathlib.Core.List.{[], ◌∷◌}
 use native.Mathlib.Omega.{arith}
 use borrow.Author.Tests.{ltb-false, ltb-true}
-use lib.Dec.{eqb, ltb}
-use lib.ListN.{get_or-eq_default, length, length-map, length-replicate, length-set}
-use Rattle.fields.proofs.Passing.{either, every_cut}
+use lib.Dec.{ltb}
+use lib.ListN.{get_or-eq_default}
+use Rattle.std.specs.Prelude.{Ok}
+use Rattle.fields.proofs.Passing.{every_cut}
 use Rattle.rules.specs.declared.PExp.{PExp}
 use Rattle.rules.specs.declared.PExp.TheVariants.{PointerVariable, SelectorOf}
 use Rattle.rules.specs.declared.DExp.{DExp}
@@ -23,10 +24,8 @@ use Rattle.rules.specs.declared.Act.{Act}
 use Rattle.rules.specs.declared.Place.{Place}
 use Rattle.rules.specs.declared.Place.TheVariants.{PointerWord, SelectorWord}
 use Rattle.rules.specs.declared.DataPlace.{DataPlace}
-use Rattle.rules.specs.declared.DataPlace.TheVariants.{CellNumber, VariableNumber}
-use Rattle.rules.specs.declared.Answer.TheVariants.{Go}
-use Rattle.rules.specs.Words.{after_free, cell_of, invalidated, is_unset, unset}
-use Rattle.rules.specs.State.{State, freed, fresh, live, never_used, numbers_with, pointer, pointers_with, selectors_with, status_of, store, variables_with, word, write}
+use Rattle.rules.specs.Words.{cell_of, is_unset, unset}
+use Rattle.rules.specs.State.{State, freed, fresh, live, never_used, pointer, status_of, store, word, write}
 use Rattle.rules.specs.Acts.{data_place, frees, place, pointer_through, source, target, value}
 use Rattle.rules.specs.Check.{check, points, valid}
 use Rattle.rules.specs.Effect.{apply, count_field, effect, free, give}
@@ -34,7 +33,8 @@ use Rattle.rules.specs.Matching.{Owned}
 use Rattle.rules.proofs.Checks.{Clear}
 use Rattle.theorems.proofs.Basics.{get_or-same, split}
 use Rattle.theorems.proofs.Words.{cell_small}
-use Rattle.theorems.proofs.States.{Sized, Within, length-change_own, status_set, word-free, word-give, word_write}
+use Rattle.theorems.proofs.States.{Sized, Within, status_set, word-free, word-give, word_write}
+use Rattle.theorems.proofs.Sizes.{sized_count, sized_free, sized_fresh, sized_give, sized_store, sized_write}
 use Rattle.theorems.proofs.Passed.{Passed, Set, looked, passed, reached}
 use Rattle.theorems.proofs.Sound.{Good, Sound, good_unset, sound_free, sound_give, sound_write}
 
@@ -72,22 +72,6 @@ pub record Inv (s : State) : Type 0 where
   pub sized : Sized s
   pub sound : Sound (word s) (status_of s)
 
-length-pointers_with : (x : Place) (w : ℕ) (l : List ℕ) → length (pointers_with x w l) ≡ length l
-length-pointers_with (PointerWord i) w l = length-set l i w
-length-pointers_with (SelectorWord j) w l = refl
-
-length-selectors_with : (x : Place) (w : ℕ) (l : List ℕ) → length (selectors_with x w l) ≡ length l
-length-selectors_with (PointerWord i) w l = refl
-length-selectors_with (SelectorWord j) w l = length-set l j w
-
-length-variables_with : (x : DataPlace) (w : ℕ) (l : List ℕ) → length (variables_with x w l) ≡ length l
-length-variables_with (VariableNumber i) w l = length-set l i w
-length-variables_with (CellNumber j) w l = refl
-
-length-numbers_with : (x : DataPlace) (w : ℕ) (l : List ℕ) → length (numbers_with x w l) ≡ length l
-length-numbers_with (VariableNumber i) w l = refl
-length-numbers_with (CellNumber j) w l = length-set l j w
-
 -- the cell of a variable that is valid and set is live
 pub live-cell : (s : State) (p : ℕ) → Inv s → Set s p → status_of s (cell_of (pointer s p)) ≡ live
 live-cell s p v t = (v.sound.good (PointerWord p)).live t.valid t.pointing
@@ -114,65 +98,29 @@ found s (SelectorOf p b) v n e f =
 keep_write : (s : State) (x : Place) (w : ℕ) → Inv s → Found s x → Good (status_of s) w → Inv (write x w s)
 unfolding write
 keep_write s x w v f g = record {
-  sized = record {
-    pointers = length-pointers_with x w s.pointers ∙ v.sized.pointers;
-    selectors = length-selectors_with x w s.selectors ∙ v.sized.selectors;
-    variables = v.sized.variables;
-    numbers = v.sized.numbers;
-    status = v.sized.status;
-  };
+  sized = sized_write s v.sized x w;
   sound = sound_write x w v.sound f.owned g (λ u. word_write s x u w v.sized f.within);
 }
 
 keep_store : (s : State) (x : DataPlace) (n : ℕ) → Inv s → Inv (store x n s)
 unfolding store
-keep_store s x n v = record {
-  sized = record {
-    pointers = v.sized.pointers;
-    selectors = v.sized.selectors;
-    variables = length-variables_with x n s.variables ∙ v.sized.variables;
-    numbers = length-numbers_with x n s.numbers ∙ v.sized.numbers;
-    status = v.sized.status;
-  };
-  sound = v.sound;
-}
+keep_store s x n v = record { sized = sized_store s v.sized x n; sound = v.sound }
 
 keep_count_field : (s : State) → Inv s → Inv (count_field s)
 unfolding count_field
-keep_count_field s v = record {
-  sized = record {
-    pointers = v.sized.pointers;
-    selectors = v.sized.selectors;
-    variables = v.sized.variables;
-    numbers = v.sized.numbers;
-    status = v.sized.status;
-  };
-  sound = v.sound;
-}
+keep_count_field s v = record { sized = sized_count s v.sized; sound = v.sound }
 
 keep_give : (s : State) (p c d : ℕ) → Inv s → p < 80 → c < 1024 → Inv (give p c d s)
 unfolding give
 keep_give s p c d v hp hc = record {
-  sized = record {
-    pointers = length-set s.pointers p c ∙ v.sized.pointers;
-    selectors = either (λ (l : List ℕ). length l ≡ 2048) (eqb (status_of s c) never_used) (length-change_own (λ w. unset) c s.selectors ∙ v.sized.selectors) v.sized.selectors;
-    variables = v.sized.variables;
-    numbers = either (λ (l : List ℕ). length l ≡ 1024) (eqb (status_of s c) never_used) (length-set s.numbers c d ∙ v.sized.numbers) v.sized.numbers;
-    status = length-set s.status c live ∙ v.sized.status;
-  };
+  sized = sized_give s v.sized p c d;
   sound = sound_give p c v.sound (cell_small c hc) (λ u. word-give s p c d u v.sized hp hc) (status_set s c live v.sized hc);
 }
 
 keep_free : (s : State) (c : ℕ) → Inv s → c < 1024 → Inv (free c s)
 unfolding free
 keep_free s c v h = record {
-  sized = record {
-    pointers = length-map s.pointers (after_free c) ∙ v.sized.pointers;
-    selectors = length-change_own invalidated c (map (after_free c) s.selectors) ∙ length-map s.selectors (after_free c) ∙ v.sized.selectors;
-    variables = v.sized.variables;
-    numbers = v.sized.numbers;
-    status = length-set s.status c freed ∙ v.sized.status;
-  };
+  sized = sized_free s v.sized c;
   sound = sound_free c v.sound (λ u. word-free s c u v.sized h) (status_set s c freed v.sized h);
 }
 
@@ -205,7 +153,7 @@ keep_change (Move x y) s v n r = keep_write s (place s x) (word s (place s y)) v
 keep_change (Put x w) s v n r = keep_store s (data_place s x) (value s w) v
 
 -- Lemma 2
-pub keep : (a : Act) (s : State) → Inv s → Named a.change → check a s ≡ Go → Inv (effect a s)
+pub keep : (a : Act) (s : State) → Inv s → Named a.change → check a s ≡ Ok tt → Inv (effect a s)
 keep a s v n e = keep_count_field (apply a.change s) (keep_change a.change s v n (aim a s (passed a s e)))
 
 -- ---- the start
@@ -217,16 +165,6 @@ word-fresh (SelectorWord j) = get_or-same 2048 j unset
 pub status_fresh : (c : ℕ) → status_of fresh c ≡ never_used
 unfolding fresh
 status_fresh c = get_or-same 1024 c never_used
-
-sized_fresh : Sized fresh
-unfolding fresh
-sized_fresh = record {
-  pointers = length-replicate {A = ℕ} 80 unset;
-  selectors = length-replicate {A = ℕ} 2048 unset;
-  variables = length-replicate {A = ℕ} 80 0;
-  numbers = length-replicate {A = ℕ} 1024 0;
-  status = length-replicate {A = ℕ} 1024 never_used;
-}
 
 pub inv_fresh : Inv fresh
 inv_fresh = record {

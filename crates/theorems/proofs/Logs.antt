@@ -7,23 +7,23 @@ use native.Mathlib.Nat.{le_of_suc-le-suc, not-suc-le-zero}
 use native.Mathlib.Omega.{arith}
 use lib.ListN.{drop, length, length-append}
 use lib.Seq.{drop_at}
+use Rattle.std.specs.Prelude.{Ok, Err}
 use Rattle.fields.specs.declared.Field.{Field}
 use Rattle.fields.specs.Every.{AreBytes, Every}
 use Rattle.fields.specs.Bytes.{pack, to_bytes}
 use Rattle.fields.specs.Rows.{length_of, row_of, widths_of}
 use Rattle.fields.specs.Numbers.{numbers_of}
-use Rattle.fields.specs.Read.{Got, Reading, Refused as Unread, read_field}
+use Rattle.fields.specs.Read.{Reading, read_field}
 use Rattle.fields.specs.Write.{field_bytes}
 use Rattle.fields.proofs.Passing.{every_join}
 use Rattle.fields.proofs.Writing.{length-field_bytes}
 use Rattle.fields.proofs.Packing.{bytes_drop}
 use Rattle.fields.proofs.RoundTrip.{Readable, back, there}
 use Rattle.rules.specs.declared.Act.{Act}
-use Rattle.rules.specs.declared.Answer.{Answer}
-use Rattle.rules.specs.declared.Answer.TheVariants.{Go, Race, Refuse}
+use Rattle.rules.specs.declared.Stop.TheVariants.{Race, Refuse}
 use Rattle.rules.specs.State.{State, fresh}
 use Rattle.rules.specs.Commands.{act_of}
-use Rattle.rules.specs.Check.{check}
+use Rattle.rules.specs.Check.{Answer, check}
 use Rattle.rules.specs.Effect.{effect}
 use Rattle.rules.specs.Run.{Accepted, End, Outcome, next, run, run_to, unread, whole}
 use Rattle.rules.specs.Log.{onward, parse, run_bytes}
@@ -58,7 +58,7 @@ pub record Taken (n : ℕ) (log : List ℕ) : Type 0 where
   pub all : (parse n log).end ≡ whole → rest ≡ []
 
 taken_more : (n : ℕ) (b : ℕ) (bs : List ℕ) (x : Reading) → AreBytes (b ∷ bs) → read_field (b ∷ bs) ≡ x → ((rest : List ℕ) → AreBytes rest → Taken n rest) → Taken (suc n) (b ∷ bs)
-taken_more n b bs (Got f) y e w =
+taken_more n b bs (Ok f) y e w =
     let q = back (b ∷ bs) f y e in
     let left = drop (3 + length_of f.tag) (b ∷ bs) in
     let v = w left (bytes_drop (3 + length_of f.tag) (b ∷ bs) y) in
@@ -69,17 +69,17 @@ taken_more n b bs (Got f) y e w =
       bytes = rw e (append_assoc (field_bytes f) (bytes_of (parse n left).fields) v.rest ∙ ap (λ (t : List ℕ). field_bytes f ++ t) v.bytes ∙ sym q.1);
       all = rw e v.all;
     }
-taken_more n b bs (Unread r) y e w = record {
+taken_more n b bs (Err r) y e w = record {
   readable = rw e tt;
   room = rw e (omega arith);
   rest = b ∷ bs;
   bytes = rw e refl;
-  all = rw e (λ z. absurd (let q : ◌≡◌ {A = ℕ} 0 1 = cc in omega arith));
+  all = rw e (λ z. cc);
 }
 
 pub taken : (n : ℕ) (log : List ℕ) → AreBytes log → Taken n log
 taken zero [] y = record { readable = tt; room = omega arith; rest = []; bytes = refl; all = λ z. refl }
-taken zero (b ∷ bs) y = record { readable = tt; room = omega arith; rest = b ∷ bs; bytes = refl; all = λ z. absurd (let q : ◌≡◌ {A = ℕ} 0 1 = cc in omega arith) }
+taken zero (b ∷ bs) y = record { readable = tt; room = omega arith; rest = b ∷ bs; bytes = refl; all = λ z. cc }
 taken (suc n) [] y = record { readable = tt; room = omega arith; rest = []; bytes = refl; all = λ z. refl }
 taken (suc n) (b ∷ bs) y = taken_more n b bs (read_field (b ∷ bs)) y refl (λ rest z. taken n rest z)
 
@@ -89,9 +89,9 @@ taken_named n log y = every_map Readable (λ f. NamedAct (act_of f)) (parse n lo
 -- an accepted run ended where the log ends
 pub ended : (end : End) (fs : List Field) (s : State) (n k l : ℕ) → (run_to end fs s).verdict ≡ Accepted n k l → end ≡ whole
 ended whole fs s n k l e = refl
-ended (unread r) [] s n k l e = absurd (let q : ◌≡◌ {A = ℕ} 0 1 = cc in omega arith)
+ended (unread r) [] s n k l e = cc
 ended (unread r) (f ∷ fs) s n k l e =
-    let g : check (act_of f) s ≡ Go = next-accepted (check (act_of f) s) f s (run_to (unread r) fs (effect (act_of f) s)) n k l e in
+    let g : check (act_of f) s ≡ Ok tt = next-accepted (check (act_of f) s) f s (run_to (unread r) fs (effect (act_of f) s)) n k l e in
     ended (unread r) fs (effect (act_of f) s) n k l (rw g at e)
 
 -- ---- the fields of a replay are readable, and take as many bytes as the log's
@@ -104,7 +104,7 @@ pub copied : (fs : List Field) (s : State) (n k l : ℕ) → Every Readable fs �
 copied [] s n k l a b w e = record { readable = tt; count = refl; bytes = refl }
 copied (f ∷ fs) s n k l a b w e =
     let g : Field = copy_field s (next_cell s) f in
-    let here : check (act_of f) s ≡ Go = next-accepted (check (act_of f) s) f s (run fs (effect (act_of f) s)) n k l e in
+    let here : check (act_of f) s ≡ Ok tt = next-accepted (check (act_of f) s) f s (run fs (effect (act_of f) s)) n k l e in
     let named : NamedAct (copy_act s (next_cell s) (act_of f)) = rw (act_copy s (next_cell s) f) at w.0 in
     let q = copied fs (effect (act_of f) s) n k l a.1 (bounded_effect (act_of f) s (readable_small f a.0) b) w.1 (rw here at e) in
     record {
@@ -132,11 +132,11 @@ bytes_fields [] = tt
 bytes_fields (f ∷ fs) = every_join (λ x. x < 256) (field_bytes f) (bytes_of fs) (bytes_field f) (bytes_fields fs)
 
 -- ---- what each command that passes keeps holds of the state that a run leaves
-module _ (P : State → Type 0) (keeps : (a : Act) (s : State) → NamedAct a → Small a.change → check a s ≡ Go → P s → P (effect a s)) where
-  kept_next : (x : Answer) (f : Field) (s : State) (later : Outcome) → P s → (x ≡ Go → P later.state) → P (next x s.fields f s later).state
-  kept_next Go f s later p h = h refl
-  kept_next (Race v) f s later p h = p
-  kept_next (Refuse r) f s later p h = p
+module _ (P : State → Type 0) (keeps : (a : Act) (s : State) → NamedAct a → Small a.change → check a s ≡ Ok tt → P s → P (effect a s)) where
+  kept_next : (x : Answer) (f : Field) (s : State) (later : Outcome) → P s → (x ≡ Ok tt → P later.state) → P (next x s.fields f s later).state
+  kept_next (Ok _) f s later p h = h refl
+  kept_next (Err (Race v)) f s later p h = p
+  kept_next (Err (Refuse r)) f s later p h = p
 
   kept_run : (end : End) (fs : List Field) (s : State) → Every Readable fs → P s → P (run_to end fs s).state
   kept_run end [] s a p = p

@@ -5,17 +5,15 @@ use mathlib.Core.Path.{◌∙◌, ◌≡◌, refl, subst, sym}
 use mathlib.Core.Bool.{Bool, true}
 use mathlib.Core.Logic.{inl, inr}
 use mathlib.Core.List.{List, [], ◌∷◌}
-use native.Mathlib.Omega.{arith}
 use borrow.Author.Tests.{eqb-true}
 use lib.Dec.{eqb}
+use Rattle.std.specs.Prelude.{Ok, Err}
 use Rattle.fields.specs.declared.RecordedCell.{RecordedCell}
 use Rattle.fields.specs.declared.Refusal.{Refusal}
 use Rattle.fields.specs.declared.Refusal.TheVariants.{TooManyMallocs}
-use Rattle.fields.specs.Order.{in_order}
 use Rattle.rules.specs.declared.Change.{Change}
 use Rattle.rules.specs.declared.Act.{Act}
-use Rattle.rules.specs.declared.Answer.{Answer}
-use Rattle.rules.specs.declared.Answer.TheVariants.{Go, Race, Refuse}
+use Rattle.rules.specs.declared.Stop.TheVariants.{Race, Refuse}
 use Rattle.rules.specs.Words.{is_unset}
 use Rattle.rules.specs.State.{State, freed, live, number_at, pointer, status_of}
 use Rattle.rules.specs.Acts.{gives, through, touched}
@@ -24,8 +22,9 @@ use Rattle.rules.proofs.Checks.{Clear, clear_each, pass_by}
 use Rattle.theorems.specs.Paper.{Asgn-load, Asgn-read, Asgn-store, Asgn-write, Asrt, Assert, Com, Computation, Cond, Heap, InUse, Malloc1, Malloc2, Rule, Update, cell, data_of, defined, freed_in, heap_of, passes, pointer_var, then, valid_in}
 use Rattle.theorems.specs.Beside.{NoSeg, RaceIn, Returns, Says, Shows, Steps, Takes, assertion, both, change, says_constant, says_copy, says_free, says_load, says_malloc, says_read, says_store, says_sum, says_write}
 use Rattle.theorems.proofs.Basics.{split}
+use Rattle.theorems.proofs.Passed.{had_room}
 use Rattle.theorems.proofs.PaperReading.{allocated_live, no_address, same_address}
-use Rattle.theorems.proofs.PaperRaces.{SomeInvalid, check_parts, others, pointer_race_is_race, races, some_invalid_race}
+use Rattle.theorems.proofs.PaperRaces.{SomeInvalid, pointer_race_is_race, some_invalid_race}
 use Rattle.theorems.proofs.PaperSteps.{guard_passes, shows_assert}
 
 -- no variable of a list is invalid
@@ -81,7 +80,7 @@ module _ (thread : ℕ) (τ : Computation) (s : State) (H : Shows s τ) where
       record { pointing = q.0; unlive = q.1; holding = sym (guard_passes τ s H g k w set) ∙ asserted st.1 }
 
   pub allowed_passes : (a : Act) (cs : List Com) (σ : Computation) → Takes a cs → NoSeg s a.guard → Steps thread (gives a.change) τ cs σ
-      → (RaceIn (valid_in τ) cs → ⊥) → Clear (room_for s) (gives a.change) → check a s ≡ Go
+      → (RaceIn (valid_in τ) cs → ⊥) → Clear (room_for s) (gives a.change) → check a s ≡ Ok tt
   allowed_passes a cs σ takes set steps no_race_lem room =
       let st = steady a cs σ takes set steps in
       pass_by (each (valid s) Race (touched a)) a s (record {
@@ -93,22 +92,15 @@ module _ (thread : ℕ) (τ : Computation) (s : State) (H : Shows s τ) where
       })
 
   -- a refusal other than 11 says that there was room
-  room_left : (a : Act) (r : Refusal) → (r ≡ TooManyMallocs → ⊥) → check a s ≡ Refuse r → Clear (room_for s) (gives a.change)
-  room_left a r n e = room (in_order (λ answer. answer) (in_order (λ answer. answer) Go (others a s)) (races a s)) (gives a.change) (sym (check_parts a s) ∙ e)
-    where
-      room : (done : Answer) (l : List RecordedCell) → in_order (λ answer. answer) done (each (room_for s) (λ c. Refuse TooManyMallocs) l) ≡ Refuse r → Clear (room_for s) l
-      room done [] q = tt
-      room done (c ∷ l) q = split (room_for s c)
-          (λ t. (t, room done l (rw t at q)))
-          (λ t. let same : Refuse TooManyMallocs ≡ Refuse r = rw t at q in absurd (n (cc)))
+  room_left : (a : Act) (r : Refusal) → (r ≡ TooManyMallocs → ⊥) → check a s ≡ Err (Refuse r) → Clear (room_for s) (gives a.change)
+  room_left a r n e = had_room a s (Err (Refuse r)) (λ q. n cc) e
 
-  pub refused_no_step : (a : Act) (cs : List Com) (r : Refusal) → Takes a cs → NoSeg s a.guard → check a s ≡ Refuse r → (r ≡ TooManyMallocs → ⊥)
+  pub refused_no_step : (a : Act) (cs : List Com) (r : Refusal) → Takes a cs → NoSeg s a.guard → check a s ≡ Err (Refuse r) → (r ≡ TooManyMallocs → ⊥)
       → (σ : Computation) → Steps thread (gives a.change) τ cs σ → ⊥
   refused_no_step a cs r takes set e n σ steps =
       let no_race_lem : RaceIn (valid_in τ) cs → ⊥ = λ race. refused_not_raced (pointer_race_is_race τ s H a cs takes race) in
-      let passes : Refuse r ≡ Go = sym e ∙ allowed_passes a cs σ takes set steps no_race_lem (room_left a r n e) in
-      let z : ◌≡◌ {A = ℕ} 0 1 = cc in
-      omega arith
+      let passes : Err (Refuse r) ≡ Ok tt = sym e ∙ allowed_passes a cs σ takes set steps no_race_lem (room_left a r n e) in
+      cc
     where
-      refused_not_raced : (v : ℕ) × (check a s ≡ Race v) → ⊥
-      refused_not_raced v = let differ : Refuse r ≡ Race v.0 = sym e ∙ v.1 in let z : ◌≡◌ {A = ℕ} 0 1 = cc in omega arith
+      refused_not_raced : (v : ℕ) × (check a s ≡ Err (Race v)) → ⊥
+      refused_not_raced v = let differ : Err (Refuse r) ≡ Err (Race v.0) = sym e ∙ v.1 in cc

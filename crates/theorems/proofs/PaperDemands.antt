@@ -7,6 +7,7 @@ use mathlib.Core.Logic.{inl, inr}
 use mathlib.Core.List.{List, [], ◌++◌, ◌∷◌}
 use native.Mathlib.Omega.{arith}
 use borrow.Author.Tests.{eqb-true}
+use Rattle.std.specs.Prelude.{Ok, Err}
 use Rattle.fields.specs.declared.Field.{Field}
 use Rattle.fields.specs.declared.Refusal.{Refusal}
 use Rattle.fields.specs.declared.Refusal.TheVariants.{TooManyMallocs}
@@ -15,12 +16,11 @@ use Rattle.fields.specs.Limits.{log_fields}
 use Rattle.fields.specs.Every.{AreBytes, Every}
 use Rattle.fields.proofs.Passing.{every_cut}
 use Rattle.fields.proofs.RoundTrip.{Readable}
-use Rattle.rules.specs.declared.Answer.{Answer}
-use Rattle.rules.specs.declared.Answer.TheVariants.{Go, Race, Refuse}
+use Rattle.rules.specs.declared.Stop.TheVariants.{Race, Refuse}
 use Rattle.rules.specs.Words.{cell_of, is_unset}
 use Rattle.rules.specs.State.{State, freed, fresh, live, status_of, word}
 use Rattle.rules.specs.Commands.{act_of}
-use Rattle.rules.specs.Check.{check}
+use Rattle.rules.specs.Check.{Answer, check}
 use Rattle.rules.specs.Effect.{effect}
 use Rattle.rules.specs.Acts.{gives}
 use Rattle.rules.specs.Run.{Accepted, End, Outcome, Raced, Refused, next, run_to, unread, whole}
@@ -63,50 +63,48 @@ lemma2_of τ s H I a f (inr q) =
 accepted_all : (end : End) (fs : List Field) (s : State) (n k l : ℕ) → (run_to end fs s).verdict ≡ Accepted n k l → passing fs s ≡ fs
 accepted_all end [] s n k l e = refl
 accepted_all end (f ∷ fs) s n k l e =
-    let here : check (act_of f) s ≡ Go = next-accepted (check (act_of f) s) f s (run_to end fs (effect (act_of f) s)) n k l e in
+    let here : check (act_of f) s ≡ Ok tt = next-accepted (check (act_of f) s) f s (run_to end fs (effect (act_of f) s)) n k l e in
     rw here (ap (λ (l : List Field). f ∷ l) (accepted_all end fs (effect (act_of f) s) n k l (rw here at e)))
 
 race-stops : (end : End) (fs : List Field) (s : State) (n t v : ℕ) → (run_to end fs s).verdict ≡ Raced n t v → (f : Field) × (rest : List Field) × (fs ≡ passing fs s ++ (f ∷ rest))
-race-stops whole [] s n t v e = absurd (let z : ◌≡◌ {A = ℕ} 0 1 = cc in omega arith)
-race-stops (unread r) [] s n t v e = absurd (let z : ◌≡◌ {A = ℕ} 0 1 = cc in omega arith)
+race-stops whole [] s n t v e = cc
+race-stops (unread r) [] s n t v e = cc
 race-stops end (f ∷ fs) s n t v e = first-stop (check (act_of f) s) refl (λ q. race-stops end fs (effect (act_of f) s) n t v q)
   where
     first-stop : (x : Answer) → check (act_of f) s ≡ x
         → ((run_to end fs (effect (act_of f) s)).verdict ≡ Raced n t v → (g : Field) × (rest : List Field) × (fs ≡ passing fs (effect (act_of f) s) ++ (g ∷ rest)))
         → (g : Field) × (rest : List Field) × (f ∷ fs ≡ passing (f ∷ fs) s ++ (g ∷ rest))
-    first-stop Go h later = let r = later (rw h at e) in rw h (r.0, r.1, ap (λ (l : List Field). f ∷ l) r.2)
-    first-stop (Race w) h later = rw h (f, fs, refl)
-    first-stop (Refuse r) h later = rw h (f, fs, refl)
+    first-stop (Ok _) h later = let r = later (rw h at e) in rw h (r.0, r.1, ap (λ (l : List Field). f ∷ l) r.2)
+    first-stop (Err stop) h later = rw h (f, fs, refl)
 
 -- an outcome that is no race, to speak of the field alone
 no_race : Outcome
 no_race = record { verdict = Accepted 0 0 0; state = fresh }
 
-next_raced : (x : Answer) (f : Field) (s : State) (n t v : ℕ) → (next x s.fields f s no_race).verdict ≡ Raced n t v → (x ≡ Race v) × (s.fields ≡ n) × (f.thread ≡ t)
+next_raced : (x : Answer) (f : Field) (s : State) (n t v : ℕ) → (next x s.fields f s no_race).verdict ≡ Raced n t v → (x ≡ Err (Race v)) × (s.fields ≡ n) × (f.thread ≡ t)
 unfolding no_race
-next_raced Go f s n t v e = absurd (let z : ◌≡◌ {A = ℕ} 0 1 = cc in omega arith)
-next_raced (Race w) f s n t v e = (cc, cc, cc)
-next_raced (Refuse r) f s n t v e = absurd (let z : ◌≡◌ {A = ℕ} 0 1 = cc in omega arith)
+next_raced (Ok _) f s n t v e = cc
+next_raced (Err (Race w)) f s n t v e = (cc, cc, cc)
+next_raced (Err (Refuse r)) f s n t v e = cc
 
 -- ---- a refusal that reading does not give is given by a field
 refusal_stops : (end : End) (fs : List Field) (s : State) (r : Refusal) (n : ℕ) → ((q : Refusal) → end ≡ unread q → ByReading q) → 11 < number_of r
     → (run_to end fs s).verdict ≡ Refused r n → (f : Field) × (rest : List Field) × (fs ≡ passing fs s ++ (f ∷ rest))
-refusal_stops whole [] s r n reading h e = absurd (let z : ◌≡◌ {A = ℕ} 0 1 = cc in omega arith)
+refusal_stops whole [] s r n reading h e = cc
 refusal_stops (unread q) [] s r n reading h e = absurd (let same : q ≡ r = cc in let few : number_of r ≤ 11 = subst ByReading same (reading q refl) in omega arith)
 refusal_stops end (f ∷ fs) s r n reading h e = by (check (act_of f) s) refl (λ q. refusal_stops end fs (effect (act_of f) s) r n reading h q)
   where
     by : (x : Answer) → check (act_of f) s ≡ x
         → ((run_to end fs (effect (act_of f) s)).verdict ≡ Refused r n → (g : Field) × (rest : List Field) × (fs ≡ passing fs (effect (act_of f) s) ++ (g ∷ rest)))
         → (g : Field) × (rest : List Field) × (f ∷ fs ≡ passing (f ∷ fs) s ++ (g ∷ rest))
-    by Go h later = let q = later (rw h at e) in rw h (q.0, q.1, ap (λ (l : List Field). f ∷ l) q.2)
-    by (Race w) h later = rw h (f, fs, refl)
-    by (Refuse q) h later = rw h (f, fs, refl)
+    by (Ok _) h later = let q = later (rw h at e) in rw h (q.0, q.1, ap (λ (l : List Field). f ∷ l) q.2)
+    by (Err stop) h later = rw h (f, fs, refl)
 
-next_refused : (x : Answer) (f : Field) (s : State) (r : Refusal) (n : ℕ) → (next x s.fields f s no_race).verdict ≡ Refused r n → (x ≡ Refuse r) × (s.fields ≡ n)
+next_refused : (x : Answer) (f : Field) (s : State) (r : Refusal) (n : ℕ) → (next x s.fields f s no_race).verdict ≡ Refused r n → (x ≡ Err (Refuse r)) × (s.fields ≡ n)
 unfolding no_race
-next_refused Go f s r n e = absurd (let z : ◌≡◌ {A = ℕ} 0 1 = cc in omega arith)
-next_refused (Race w) f s r n e = absurd (let z : ◌≡◌ {A = ℕ} 0 1 = cc in omega arith)
-next_refused (Refuse q) f s r n e = let same : q ≡ r = cc in (ap Refuse same, cc)
+next_refused (Ok _) f s r n e = cc
+next_refused (Err (Race w)) f s r n e = cc
+next_refused (Err (Refuse q)) f s r n e = let same : q ≡ r = cc in (ap (λ (why : Refusal). Err (Refuse why)) same, cc)
 
 readable_stop : (l : List Field) (f : Field) (rest : List Field) → Every Readable (l ++ (f ∷ rest)) → Readable f
 readable_stop l f rest a = (every_cut Readable l (f ∷ rest) a).1.0

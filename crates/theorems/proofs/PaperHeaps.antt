@@ -3,7 +3,6 @@
 use Prim.Native.Nat.{ℕ}
 use mathlib.Core.Path.{◌∙◌, ◌≡◌, refl, subst}
 use mathlib.Core.Bool.{false, true}
-use native.Mathlib.Omega.{arith}
 use Rattle.rules.specs.Words.{after_free, cell_of, invalidated, is_unset, is_valid}
 use Rattle.rules.specs.State.{fresh, pointer, store, write}
 use Rattle.rules.specs.Commands.{command_of}
@@ -57,7 +56,7 @@ unset_copied = refl
 -- what is mapped to a variable is that variable
 from_variable : (f : ℕ → ℕ) (e : PExp) (p : ℕ) → map_p_exp f e ≡ pointer_var p → e ≡ pointer_var p
 from_variable f (pointer_var q) p h = h
-from_variable f (next_of a i) p h = absurd (let z : ◌≡◌ {A = ℕ} 0 1 = cc in omega arith)
+from_variable f (next_of a i) p h = cc
 
 -- whatever computations the two states show
 pub not_heap_equivalent : (τ σ : Computation) → Shows (run log_e fresh).state τ → Shows (run (replay fresh log_e) fresh).state σ → HeapEquivalent τ σ → ⊥

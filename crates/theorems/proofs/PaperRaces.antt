@@ -5,24 +5,25 @@ use mathlib.Core.Path.{◌∙◌, ◌≡◌, ap, ap₂, refl, sym}
 use mathlib.Core.Bool.{Bool, false}
 use mathlib.Core.Logic.{◌⊎◌, inl, inr}
 use mathlib.Core.List.{List, [], ◌++◌, ◌∷◌, append-nil}
-use native.Mathlib.Omega.{arith}
+use Rattle.std.specs.Prelude.{Ok, Err}
 use Rattle.fields.specs.declared.Refusal.{Refusal}
 use Rattle.fields.specs.declared.Refusal.TheVariants.{AssertionFails, LiveCell, TooManyMallocs, UnsetPointer}
 use Rattle.fields.specs.Every.{Every}
-use Rattle.fields.specs.Order.{Test, in_order}
+use Rattle.fields.specs.Order.{Test}
 use Rattle.fields.proofs.Passing.{every_join, in_order_append}
 use Rattle.rules.specs.declared.Guard.{Guard}
 use Rattle.rules.specs.declared.Change.{Change}
 use Rattle.rules.specs.declared.Act.{Act}
-use Rattle.rules.specs.declared.Answer.{Answer}
-use Rattle.rules.specs.declared.Answer.TheVariants.{Go, Race, Refuse}
+use Rattle.rules.specs.declared.Stop.{Stop}
+use Rattle.rules.specs.declared.Stop.TheVariants.{Race, Refuse}
 use Rattle.rules.specs.State.{State}
 use Rattle.rules.specs.Acts.{compared, frees, gives, through, touched}
-use Rattle.rules.specs.Check.{check, check_by, each, points, room_for, vacant, valid}
+use Rattle.rules.specs.Check.{Answer, check, check_by, each, points, room_for, vacant, valid}
 use Rattle.rules.proofs.Checks.{guard_tests, room_tests, set_tests, vacancy_tests}
 use Rattle.theorems.specs.Paper.{Assert, Com, Computation, Cond, ContainsInvalid, NotValid, PExp, PointerRace, SomeNotValid, contained, pointer_var, pointers_of, same_data, same_pointers, negated, Compute, Copy, Free, Load, Malloc, ReadData, Store, WriteData, valid_in}
 use Rattle.theorems.specs.Beside.{Asserts, FirstNotValid, RaceIn, Says, Shows, Takes, assertion, both, change, contained_in, says_apart, says_constant, says_copy, says_equal, says_free, says_load, says_malloc, says_read, says_same, says_store, says_sum, says_unequal, says_write, valid_of}
 use Rattle.theorems.proofs.Basics.{split}
+use Rattle.theorems.proofs.Passed.{answered}
 
 -- some variable of a list is not valid
 abbrev pub SomeInvalid : State → List ℕ → Type 0
@@ -50,20 +51,20 @@ module _ (s : State) where
 
 -- ---- tests in order, of which some say races
 module _ (s : State) where
-  race_in : (l : List ℕ) (done : Answer) (v : ℕ) → (done ≡ Race v → ⊥) → in_order (λ answer. answer) done (each (valid s) Race l) ≡ Race v → SomeInvalid s l
+  race_in : (l : List ℕ) (done : Answer) (v : ℕ) → (done ≡ Err (Race v) → ⊥) → answered done (each (valid s) Race l) ≡ Err (Race v) → SomeInvalid s l
   race_in [] done v n e = absurd (n e)
   race_in (p ∷ l) done v n e = split (valid s p)
       (λ t. inr (race_in l done v n (rw t at e)))
       (λ t. inl t)
 
   -- and the race is said of a variable that is not valid
-  race_of : (l : List ℕ) (done : Answer) (v : ℕ) → (done ≡ Race v → ⊥) → in_order (λ answer. answer) done (each (valid s) Race l) ≡ Race v → valid s v ≡ false
+  race_of : (l : List ℕ) (done : Answer) (v : ℕ) → (done ≡ Err (Race v) → ⊥) → answered done (each (valid s) Race l) ≡ Err (Race v) → valid s v ≡ false
   race_of [] done v n e = absurd (n e)
   race_of (p ∷ l) done v n e = split (valid s p)
       (λ t. race_of l done v n (rw t at e))
-      (λ t. let said : Race p ≡ Race v = rw t at e in let same : p ≡ v = cc in rw same at t)
+      (λ t. let said : Err (Race p) ≡ Err (Race v) = rw t at e in let same : p ≡ v = cc in rw same at t)
 
-  in_race : (l : List ℕ) (done : Answer) → SomeInvalid s l → (v : ℕ) × (in_order (λ answer. answer) done (each (valid s) Race l) ≡ Race v)
+  in_race : (l : List ℕ) (done : Answer) → SomeInvalid s l → (v : ℕ) × (answered done (each (valid s) Race l) ≡ Err (Race v))
   in_race [] done i = absurd i
   in_race (p ∷ l) done (inl t) = (p, rw t refl)
   in_race (p ∷ l) done (inr i) = split (valid s p)
@@ -71,28 +72,28 @@ module _ (s : State) where
       (λ t. (p, rw t refl))
 
 -- tests that say no race
-abbrev Raceless : Test Answer → Type 0
+abbrev Raceless : Test Stop → Type 0
 Raceless t = (v : ℕ) → t.says ≡ Race v → ⊥
 
 refusal_raceless : (r : Refusal) (v : ℕ) → Refuse r ≡ Race v → ⊥
-refusal_raceless r v e = let z : ◌≡◌ {A = ℕ} 0 1 = cc in omega arith
+refusal_raceless r v e = cc
 
 each_raceless : {K : Type 0} (good : K → Bool) (r : Refusal) (l : List K) → Every Raceless (each good (λ k. Refuse r) l)
 each_raceless good r [] = tt
 each_raceless good r (k ∷ l) = (refusal_raceless r, each_raceless good r l)
 
-after_raceless : (ts : List (Test Answer)) (done : Answer) (v : ℕ) → Every Raceless ts → in_order (λ answer. answer) done ts ≡ Race v → done ≡ Race v
+after_raceless : (ts : List (Test Stop)) (done : Answer) (v : ℕ) → Every Raceless ts → answered done ts ≡ Err (Race v) → done ≡ Err (Race v)
 after_raceless [] done v n e = e
 after_raceless (t ∷ ts) done v n e = split t.passes
     (λ p. after_raceless ts done v n.1 (rw p at e))
-    (λ p. absurd (n.0 v (rw p at e)))
+    (λ p. let said : ◌≡◌ {A = Answer} (Err t.says) (Err (Race v)) = rw p at e in absurd (n.0 v cc))
 
 -- ---- the checks of a command
 module _ (a : Act) (s : State) where
-  abbrev pub races : List (Test Answer)
+  abbrev pub races : List (Test Stop)
   races = each (valid s) Race (touched a)
 
-  abbrev pub others : List (Test Answer)
+  abbrev pub others : List (Test Stop)
   others = set_tests a s ++ (vacancy_tests a s ++ guard_tests a s)
 
   others_raceless : Every Raceless others
@@ -101,27 +102,27 @@ module _ (a : Act) (s : State) where
       (every_join Raceless (vacancy_tests a s) (guard_tests a s) (each_raceless (vacant s) LiveCell (gives a.change)) (refusal_raceless AssertionFails, tt))
 
   -- what the checks come to: the tests for room, then the races, then the others
-  pub check_parts : check a s ≡ in_order (λ answer. answer) (in_order (λ answer. answer) (in_order (λ answer. answer) Go others) races) (room_tests a s)
+  pub check_parts : check a s ≡ answered (answered (answered (Ok tt) others) races) (room_tests a s)
   unfolding check_by
-  check_parts = in_order_append (λ answer. answer) Go (room_tests a s) (races ++ others) ∙ ap (λ (done : Answer). in_order (λ answer. answer) done (room_tests a s)) (in_order_append (λ answer. answer) Go races others)
+  check_parts = in_order_append Err (Ok tt) (room_tests a s) (races ++ others) ∙ ap (λ (done : Answer). answered done (room_tests a s)) (in_order_append Err (Ok tt) races others)
 
   -- a race is said by the tests for races alone
-  by_races : (v : ℕ) → check a s ≡ Race v → (in_order (λ answer. answer) Go others ≡ Race v → ⊥) × (in_order (λ answer. answer) (in_order (λ answer. answer) Go others) races ≡ Race v)
+  by_races : (v : ℕ) → check a s ≡ Err (Race v) → (answered (Ok tt) others ≡ Err (Race v) → ⊥) × (answered (answered (Ok tt) others) races ≡ Err (Race v))
   by_races v e = (
-    (λ q. let z : Go ≡ Race v = after_raceless others Go v others_raceless q in let y : ◌≡◌ {A = ℕ} 0 1 = cc in omega arith),
-    after_raceless (room_tests a s) (in_order (λ answer. answer) (in_order (λ answer. answer) Go others) races) v (each_raceless (room_for s) TooManyMallocs (gives a.change)) (sym check_parts ∙ e),
+    (λ q. let z : Ok tt ≡ Err (Race v) = after_raceless others (Ok tt) v others_raceless q in cc),
+    after_raceless (room_tests a s) (answered (answered (Ok tt) others) races) v (each_raceless (room_for s) TooManyMallocs (gives a.change)) (sym check_parts ∙ e),
   )
 
-  race-touched : (v : ℕ) → check a s ≡ Race v → SomeInvalid s (touched a)
-  race-touched v e = let q = by_races v e in race_in s (touched a) (in_order (λ answer. answer) Go others) v q.0 q.1
+  race-touched : (v : ℕ) → check a s ≡ Err (Race v) → SomeInvalid s (touched a)
+  race-touched v e = let q = by_races v e in race_in s (touched a) (answered (Ok tt) others) v q.0 q.1
 
-  race_variable : (v : ℕ) → check a s ≡ Race v → valid s v ≡ false
-  race_variable v e = let q = by_races v e in race_of s (touched a) (in_order (λ answer. answer) Go others) v q.0 q.1
+  race_variable : (v : ℕ) → check a s ≡ Err (Race v) → valid s v ≡ false
+  race_variable v e = let q = by_races v e in race_of s (touched a) (answered (Ok tt) others) v q.0 q.1
 
-  touched-race : gives a.change ≡ [] → SomeInvalid s (touched a) → (v : ℕ) × (check a s ≡ Race v)
-  touched-race none i = let r = in_race s (touched a) (in_order (λ answer. answer) Go others) i in (r.0, check_parts ∙ no_rooms ∙ r.1)
+  touched-race : gives a.change ≡ [] → SomeInvalid s (touched a) → (v : ℕ) × (check a s ≡ Err (Race v))
+  touched-race none i = let r = in_race s (touched a) (answered (Ok tt) others) i in (r.0, check_parts ∙ no_rooms ∙ r.1)
     where
-      no_rooms : {done : Answer} → in_order (λ answer. answer) done (room_tests a s) ≡ done
+      no_rooms : {done : Answer} → answered done (room_tests a s) ≡ done
       no_rooms = rw none refl
 
 -- ---- Definition 2 names the variables that are looked at
@@ -202,21 +203,20 @@ module _ (τ : Computation) (s : State) (H : Shows s τ) (a : Act) (cs : List Co
   pub some_invalid_race : SomeInvalid s (touched a) → RaceIn (valid_in τ) cs
   some_invalid_race i = to_definition s (valid_in τ) (λ p. H.marks (pointer_var p)) a cs takes i
 
-  pub race_is_pointer_race : (v : ℕ) → check a s ≡ Race v → RaceIn (valid_in τ) cs
+  pub race_is_pointer_race : (v : ℕ) → check a s ≡ Err (Race v) → RaceIn (valid_in τ) cs
   race_is_pointer_race v e = some_invalid_race (race-touched a s v e)
 
-  pub race_names_invalid : (v : ℕ) → check a s ≡ Race v → NotValid (valid_in τ) v
+  pub race_names_invalid : (v : ℕ) → check a s ≡ Err (Race v) → NotValid (valid_in τ) v
   race_names_invalid v e = H.marks (pointer_var v) ∙ race_variable a s v e
 
-  pub pointer_race_is_race : RaceIn (valid_in τ) cs → (v : ℕ) × (check a s ≡ Race v)
+  pub pointer_race_is_race : RaceIn (valid_in τ) cs → (v : ℕ) × (check a s ≡ Err (Race v))
   pointer_race_is_race r = let q = from_definition s (valid_in τ) (λ p. H.marks (pointer_var p)) a cs takes r in touched-race a s q.1 q.0
 
-  pub passed_no_race : check a s ≡ Go → RaceIn (valid_in τ) cs → ⊥
+  pub passed_no_race : check a s ≡ Ok tt → RaceIn (valid_in τ) cs → ⊥
   passed_no_race here r =
       let v = pointer_race_is_race r in
-      let differ : Race v.0 ≡ Go = sym v.1 ∙ here in
-      let z : ◌≡◌ {A = ℕ} 0 1 = cc in
-      omega arith
+      let differ : Err (Race v.0) ≡ Ok tt = sym v.1 ∙ here in
+      cc
 
 -- ---- Definition 2 by the pointers that a command contains: it races exactly where one of them is not valid
 module _ (legal : PExp → Bool) where
@@ -260,14 +260,14 @@ module _ (legal : PExp → Bool) where
   contains_race (Compute x op xs) r = r
 
 -- ---- a race names the first variable that is not valid
-race_first : (s : State) (l : List ℕ) (done : Answer) (v : ℕ) → (done ≡ Race v → ⊥) → in_order (λ answer. answer) done (each (valid s) Race l) ≡ Race v → FirstNotValid (valid_of s) l v
+race_first : (s : State) (l : List ℕ) (done : Answer) (v : ℕ) → (done ≡ Err (Race v) → ⊥) → answered done (each (valid s) Race l) ≡ Err (Race v) → FirstNotValid (valid_of s) l v
 race_first s [] done v n e = absurd (n e)
 race_first s (p ∷ l) done v n e = split (valid s p)
     (λ t. inr (t, race_first s l done v n (rw t at e)))
-    (λ t. let said : Race p ≡ Race v = rw t at e in inl (t, cc))
+    (λ t. let said : Err (Race p) ≡ Err (Race v) = rw t at e in inl (t, cc))
 
-race_names : (a : Act) (s : State) (v : ℕ) → check a s ≡ Race v → FirstNotValid (valid_of s) (touched a) v
-race_names a s v e = let q = by_races a s v e in race_first s (touched a) (in_order (λ answer. answer) Go (others a s)) v q.0 q.1
+race_names : (a : Act) (s : State) (v : ℕ) → check a s ≡ Err (Race v) → FirstNotValid (valid_of s) (touched a) v
+race_names a s v e = let q = by_races a s v e in race_first s (touched a) (answered (Ok tt) (others a s)) v q.0 q.1
 
 -- what the checks look at is what the commands contain, in their order
 guard_contained : (g : Guard) (k : Cond) → Asserts g k → compared g ≡ pointers_of k
@@ -297,5 +297,5 @@ module _ (τ : Computation) (s : State) (H : Shows s τ) (a : Act) (cs : List Co
   same_valid = λ i e. sym (H.marks e) i
 
   -- of the pointers that the commands contain, it names the first that is not valid
-  pub race_names_first : (v : ℕ) → check a s ≡ Race v → FirstNotValid (valid_in τ) (contained_in cs) v
+  pub race_names_first : (v : ℕ) → check a s ≡ Err (Race v) → FirstNotValid (valid_in τ) (contained_in cs) v
   race_names_first v e = rw (same_valid, touched_contained a cs takes) at (race_names a s v e)

@@ -147,13 +147,13 @@ dval_cell s a n (data_of b) z l h = rw (get_or-set s.numbers a b n 0 (omega (ari
     (λ t. rw t refl))
 
 pub no_value : {A : Type 0} {x : A} → undefined ≡ defined x → ⊥
-no_value e = let z : ◌≡◌ {A = ℕ} 0 1 = cc in omega arith
+no_value e = cc
 
 pub same_address : {a b : ℕ} → defined (cell a) ≡ defined (cell b) → a ≡ b
 same_address e = cc
 
 pub no_address : {a : ℕ} → defined seg ≡ defined (cell a) → ⊥
-no_address e = let z : ◌≡◌ {A = ℕ} 0 1 = cc in omega arith
+no_address e = cc
 
 -- ---- a word holds the cell c exactly where the expression points to it
 module _ (s : State) (c : ℕ) (T : Traced (word s) (status_of s)) (hc : c < 1024) where

@@ -8,6 +8,7 @@ use mathlib.Core.List.{List, [], ◌++◌, ◌∷◌}
 use native.Mathlib.Omega.{arith}
 use borrow.Author.Tests.{eqb-false, not-true}
 use lib.Dec.{eqb}
+use Rattle.std.specs.Prelude.{Ok, Err}
 use Rattle.fields.specs.declared.Field.{Field}
 use Rattle.fields.specs.declared.RecordedCell.{RecordedCell}
 use Rattle.fields.specs.Every.{AreBytes, Every}
@@ -18,13 +19,12 @@ use Rattle.rules.specs.declared.Change.{Change}
 use Rattle.rules.specs.declared.Change.TheVariants.{Allocate, Move, Put, Release, Stay}
 use Rattle.rules.specs.declared.Act.{Act}
 use Rattle.rules.specs.declared.Place.TheVariants.{PointerWord, SelectorWord}
-use Rattle.rules.specs.declared.Answer.{Answer}
-use Rattle.rules.specs.declared.Answer.TheVariants.{Go, Race, Refuse}
+use Rattle.rules.specs.declared.Stop.TheVariants.{Race, Refuse}
 use Rattle.rules.specs.Words.{cell_of, is_unset, unset}
 use Rattle.rules.specs.State.{State, freed, fresh, live, number_at, pointer, status_of, store, word, write}
 use Rattle.rules.specs.Acts.{frees, gives, place, pointer_through, through}
 use Rattle.rules.specs.Commands.{act_of}
-use Rattle.rules.specs.Check.{check, points, vacant, valid}
+use Rattle.rules.specs.Check.{Answer, check, points, vacant, valid}
 use Rattle.rules.specs.Effect.{apply, count_field, effect, free, give}
 use Rattle.rules.specs.Run.{End, Outcome, next, run_to}
 use Rattle.rules.specs.Log.{parse, run_bytes}
@@ -166,7 +166,7 @@ stopped s τ S = record { computation = τ; takes = refl; managed = S.managed; r
 -- one field, whatever the checks say of it
 module _ (f : Field) (s : State) (τ : Computation) (R : Readable f) (S : Standing s τ) (fs : List Field) (end : End)
     (later : (σ : Computation) → Standing (effect (act_of f) s) σ → Computed σ (passing fs (effect (act_of f) s)) (run_to end fs (effect (act_of f) s)).state) where
-  goes_on_lem : check (act_of f) s ≡ Go → Computed τ (f ∷ passing fs (effect (act_of f) s)) (run_to end fs (effect (act_of f) s)).state
+  goes_on_lem : check (act_of f) s ≡ Ok tt → Computed τ (f ∷ passing fs (effect (act_of f) s)) (run_to end fs (effect (act_of f) s)).state
   goes_on_lem here =
       let act : Act = act_of f in
       let named = readable_named f R in
@@ -183,9 +183,9 @@ module _ (f : Field) (s : State) (τ : Computation) (R : Readable f) (S : Standi
       record { computation = q.computation; takes = (c.0, o.to, c.1, o.steps, q.takes); managed = q.managed; race_free = q.race_free; shows = q.shows }
 
   one_field : (x : Answer) → check (act_of f) s ≡ x → Computed τ (passing (f ∷ fs) s) (run_to end (f ∷ fs) s).state
-  one_field Go e = rw e (goes_on_lem e)
-  one_field (Race v) e = rw e (stopped s τ S)
-  one_field (Refuse r) e = rw e (stopped s τ S)
+  one_field (Ok _) e = rw e (goes_on_lem e)
+  one_field (Err (Race v)) e = rw e (stopped s τ S)
+  one_field (Err (Refuse r)) e = rw e (stopped s τ S)
 
 continued : (end : End) (fs : List Field) (s : State) (τ : Computation) → Every Readable fs → Standing s τ → Computed τ (passing fs s) (run_to end fs s).state
 continued end [] s τ a S = stopped s τ S
@@ -226,10 +226,10 @@ others_of e = cc
 
 decides_first : (end : End) (g : Field) (fs : List Field) (s : State) (f : Field) (rest : List Field) (other : Outcome) (x : Answer) → check (act_of g) s ≡ x → g ∷ fs ≡ passing (g ∷ fs) s ++ (f ∷ rest)
     → (fs ≡ passing fs (effect (act_of g) s) ++ (f ∷ rest) → Decides end fs (effect (act_of g) s) f other) → Decides end (g ∷ fs) s f other
-decides_first end g fs s f rest other Go h e later = rw h (later (others_of (rw h at e)))
-decides_first end g fs s f rest other (Race v) h e later = rw (h, ← (first_of (rw h at e)), h) refl
-decides_first end g fs s f rest other (Refuse r) h e later = rw (h, ← (first_of (rw h at e)), h) refl
+decides_first end g fs s f rest other (Ok _) h e later = rw h (later (others_of (rw h at e)))
+decides_first end g fs s f rest other (Err (Race v)) h e later = rw (h, ← (first_of (rw h at e)), h) refl
+decides_first end g fs s f rest other (Err (Refuse r)) h e later = rw (h, ← (first_of (rw h at e)), h) refl
 
 pub decides : (end : End) (fs : List Field) (s : State) (f : Field) (rest : List Field) (other : Outcome) → fs ≡ passing fs s ++ (f ∷ rest) → Decides end fs s f other
-decides end [] s f rest other e = absurd (let z : ◌≡◌ {A = ℕ} 0 1 = cc in omega arith)
+decides end [] s f rest other e = cc
 decides end (g ∷ fs) s f rest other e = decides_first end g fs s f rest other (check (act_of g) s) refl e (λ q. decides end fs (effect (act_of g) s) f rest other q)

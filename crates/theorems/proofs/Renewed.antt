@@ -10,6 +10,7 @@ use borrow.Author.Tests.{eq-eqb, eqb-false, eqb-true, ne_eqb}
 use lib.Dec.{eqb}
 use lib.ListN.{length, length-append, take}
 use lib.Seq.{ext_get_or}
+use Rattle.std.specs.Prelude.{Ok}
 use Rattle.fields.specs.declared.Field.{Field}
 use Rattle.fields.specs.declared.RecordedCell.{RecordedCell}
 use Rattle.fields.specs.Every.{Every}
@@ -18,7 +19,6 @@ use Rattle.rules.specs.declared.ReplayCell.{ReplayCell}
 use Rattle.rules.specs.declared.Change.{Change}
 use Rattle.rules.specs.declared.Change.TheVariants.{Allocate, Move, Put, Release, Stay}
 use Rattle.rules.specs.declared.Act.{Act}
-use Rattle.rules.specs.declared.Answer.TheVariants.{Go}
 use Rattle.rules.specs.State.{State, fresh, never_used, number_at, status_of}
 use Rattle.rules.specs.Acts.{gives}
 use Rattle.rules.specs.Commands.{act_of}
@@ -37,11 +37,11 @@ use Rattle.theorems.proofs.Tables.{act_copy, own_field, same_copy}
 -- what a malloc's copy gives out, and its data
 given_copy : (s : State) (k : ReplayCell) (ch : Change) (c : RecordedCell) (own : ℕ) → gives ch ≡ c ∷ []
     → (gives (copy_change s k ch) ≡ to_replay_log k ∷ []) × (data_from (copy_change s k ch) own ≡ starting_data s c (data_from ch own))
-given_copy s k Stay c own e = absurd (let z : ◌≡◌ {A = ℕ} 0 1 = cc in omega arith)
+given_copy s k Stay c own e = cc
 given_copy s k (Allocate p d n) c own e = let same : d ≡ c = cc in (refl, rw same refl)
-given_copy s k (Release p) c own e = absurd (let z : ◌≡◌ {A = ℕ} 0 1 = cc in omega arith)
-given_copy s k (Move x y) c own e = absurd (let z : ◌≡◌ {A = ℕ} 0 1 = cc in omega arith)
-given_copy s k (Put x v) c own e = absurd (let z : ◌≡◌ {A = ℕ} 0 1 = cc in omega arith)
+given_copy s k (Release p) c own e = cc
+given_copy s k (Move x y) c own e = cc
+given_copy s k (Put x v) c own e = cc
 
 starts_unused : (s : State) (c : RecordedCell) (d : ℕ) → status_of s c.0 ≡ never_used → starting_data s c d ≡ d
 unfolding starting_data
@@ -85,7 +85,7 @@ copied_each [] s n k l e i h = absurd (not-suc-le-zero h)
 copied_each (f ∷ fs) s n k l e zero h = let none : s.mallocs + 0 ≡ s.mallocs = omega arith in rw none (field_copied s (next_cell s) f)
 copied_each (f ∷ fs) s n k l e (suc i) h =
     let a : Act = act_of f in
-    let here : check a s ≡ Go = next-accepted (check a s) f s (run fs (effect a s)) n k l e in
+    let here : check a s ≡ Ok tt = next-accepted (check a s) f s (run fs (effect a s)) n k l e in
     let later = copied_each fs (effect a s) n k l (rw here at e) i (le_of_suc-le-suc h) in
     let count : (effect a s).mallocs + mallocs_before fs i ≡ s.mallocs + mallocs_before (f ∷ fs) (suc i) = omega (arith, effect_mallocs a s, length-append (gives a.change) (given_by (take i fs))) in
     rw (here, ← count) later
@@ -149,8 +149,8 @@ above_apart d (c ∷ l) a = (λ e. let same : d.0 ≡ c.0 = ap (λ (r : Recorded
 in_turn : (fs gs : List Field) (n : ℕ) → length gs ≡ length fs → ((i : ℕ) → i < length fs → BothGive (n + mallocs_before fs i) (field_at fs i) (field_at gs i))
     → Every (λ c. n ≤ c.0) (given_by gs) × Distinct (given_by gs)
 in_turn [] [] n e G = (tt, tt)
-in_turn [] (g ∷ gs) n e G = absurd (let z : suc (length gs) ≡ 0 = e in omega arith)
-in_turn (f ∷ fs) [] n e G = absurd (let z : 0 ≡ suc (length fs) = e in omega arith)
+in_turn [] (g ∷ gs) n e G = absurd (omega (arith, e))
+in_turn (f ∷ fs) [] n e G = absurd (omega (arith, e))
 in_turn (f ∷ fs) (g ∷ gs) n e G = by (one_or_none (act_of f).change) (λ k h. in_turn fs gs k (let z : suc (length gs) ≡ suc (length fs) = e in omega arith) h)
   where
     here : BothGive n f g

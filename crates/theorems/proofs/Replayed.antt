@@ -8,6 +8,7 @@ use mathlib.Core.List.{List, [], ◌∷◌}
 use native.Mathlib.Omega.{arith}
 use borrow.Author.Tests.{eqb-true, ltb-true, ne_eqb}
 use lib.Dec.{eqb}
+use Rattle.std.specs.Prelude.{Ok, Err}
 use Rattle.fields.proofs.Passing.{either}
 use Rattle.fields.specs.declared.Field.{Field}
 use Rattle.fields.specs.Every.{Every}
@@ -17,13 +18,12 @@ use Rattle.rules.specs.declared.Change.TheVariants.{Allocate, Move, Put, Release
 use Rattle.rules.specs.declared.Act.{Act}
 use Rattle.rules.specs.declared.Place.{Place}
 use Rattle.rules.specs.declared.Place.TheVariants.{PointerWord, SelectorWord}
-use Rattle.rules.specs.declared.Answer.{Answer}
-use Rattle.rules.specs.declared.Answer.TheVariants.{Go, Race, Refuse}
+use Rattle.rules.specs.declared.Stop.TheVariants.{Race, Refuse}
 use Rattle.rules.specs.Words.{cell_of, is_unset, is_valid, unset}
 use Rattle.rules.specs.State.{State, freed, fresh, live, never_used, pointer, status_of, store, word, write}
 use Rattle.rules.specs.Acts.{frees, gives}
 use Rattle.rules.specs.Commands.{act_of}
-use Rattle.rules.specs.Check.{check, room_for, valid}
+use Rattle.rules.specs.Check.{Answer, check, room_for, valid}
 use Rattle.rules.specs.Effect.{apply, count_field, effect, free, give}
 use Rattle.rules.specs.Run.{Accepted, Outcome, next, run}
 use Rattle.rules.specs.Replay.{Matching, copy_act, copy_change, copy_field, next_cell, rematch, replay, start}
@@ -41,10 +41,10 @@ use Rattle.theorems.proofs.Tables.{act_copy}
 abbrev pub All : (Act → Type 0) → List Field → Type 0
 All P fs = Every (λ f. P (act_of f)) fs
 
-pub next-accepted : (x : Answer) (f : Field) (s : State) (later : Outcome) (n k l : ℕ) → (next x s.fields f s later).verdict ≡ Accepted n k l → x ≡ Go
-next-accepted Go f s later n k l e = refl
-next-accepted (Race v) f s later n k l e = absurd (let z : ◌≡◌ {A = ℕ} 0 1 = cc in omega arith)
-next-accepted (Refuse r) f s later n k l e = absurd (let z : ◌≡◌ {A = ℕ} 0 1 = cc in omega arith)
+pub next-accepted : (x : Answer) (f : Field) (s : State) (later : Outcome) (n k l : ℕ) → (next x s.fields f s later).verdict ≡ Accepted n k l → x ≡ Ok tt
+next-accepted (Ok _) f s later n k l e = refl
+next-accepted (Err (Race v)) f s later n k l e = cc
+next-accepted (Err (Refuse r)) f s later n k l e = cc
 
 -- the matching after a field f of the recording and a field g of the replay
 abbrev onward : Field → Field → Matching → Matching
@@ -59,8 +59,8 @@ replay_by choose R S (f ∷ fs) =
 
 -- the choice is apt where I holds, and I is kept
 module _ (choose : State → State → ReplayCell) (I : State → State → Type 0)
-    (apt : (R S : State) (a : Act) → I R S → NamedAct a → check a R ≡ Go → Apt S (choose R S) a.change)
-    (keeps : (R S : State) (m : Matching) (a : Act) → Pair R S (flat m) → I R S → NamedAct a → check a R ≡ Go → I (effect a R) (effect (copy_act R (choose R S) a) S)) where
+    (apt : (R S : State) (a : Act) → I R S → NamedAct a → check a R ≡ Ok tt → Apt S (choose R S) a.change)
+    (keeps : (R S : State) (m : Matching) (a : Act) → Pair R S (flat m) → I R S → NamedAct a → check a R ≡ Ok tt → I (effect a R) (effect (copy_act R (choose R S) a) S)) where
   abbrev Both : State → State → Matching → Type 0
   Both R S m = Pair R S (flat m) × I R S
 
@@ -73,9 +73,9 @@ module _ (choose : State → State → ReplayCell) (I : State → State → Type
       let g : Field = copy_field R c f in
       let b : Act = act_of g in
       let same : b ≡ copy_act R c a = act_copy R c f in
-      let here : check a R ≡ Go = next-accepted (check a R) f R (run fs (effect a R)) n k l e in
+      let here : check a R ≡ Ok tt = next-accepted (check a R) f R (run fs (effect a R)) n k l e in
       let z : Apt S c a.change = apt R S a P.1 w.0 here in
-      let there : check b S ≡ Go = rw same (check_step m P.0 c a z here) in
+      let there : check b S ≡ Ok tt = rw same (check_step m P.0 c a z here) in
       let Q : Both (effect a R) (effect b S) (onward f g m) = rw same (step m P.0 c a z w.0.1 here, keeps R S m a P.0 P.1 w.0 here) in
       let r = along fs (effect a R) (effect b S) (onward f g m) n k l Q w.1 (rw here at e) in
       ((P, here, there, r.0), (rw same (named_step m P.0 c a z w.0), r.1))
@@ -123,7 +123,7 @@ in_order_of_mallocs R S = next_cell R
 abbrev Beyond : State → State → Type 0
 Beyond R S = (k : ℕ) → R.mallocs ≤ k → status_of S k ≡ never_used
 
-next_apt : (R S : State) (a : Act) → Beyond R S → NamedAct a → check a R ≡ Go → Apt S (next_cell R) a.change
+next_apt : (R S : State) (a : Act) → Beyond R S → NamedAct a → check a R ≡ Ok tt → Apt S (next_cell R) a.change
 next_apt R S a B n e = apt a.change (passed a R e).room
   where
     apt : (c : Change) → Clear (room_for R) (gives c) → Apt S (next_cell R) c
@@ -156,7 +156,7 @@ beyond_cell R (Release p) k h = (tt, rw (either (λ (s : State). s.mallocs ≡ R
 beyond_cell R (Move x y) k h = (tt, h)
 beyond_cell R (Put x v) k h = (tt, h)
 
-next_keeps : (R S : State) (m : Matching) (a : Act) → Pair R S (flat m) → Beyond R S → NamedAct a → check a R ≡ Go → Beyond (effect a R) (effect (copy_act R (next_cell R) a) S)
+next_keeps : (R S : State) (m : Matching) (a : Act) → Pair R S (flat m) → Beyond R S → NamedAct a → check a R ≡ Ok tt → Beyond (effect a R) (effect (copy_act R (next_cell R) a) S)
 unfolding count_field
 next_keeps R S m a P B n e = λ k h.
     let c : ReplayCell = next_cell R in

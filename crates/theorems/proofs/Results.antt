@@ -11,7 +11,6 @@ use mathlib.Core.Bool.{Bool, true, false, cond}
 use mathlib.Core.List.{List, [], ◌∷◌, ◌++◌}
 use mathlib.Core.Logic.{◌⊎◌, inl, inr}
 use mathlib.Core.Path.{◌≡◌, ◌∙◌, ap, refl, sym}
-use native.Mathlib.Omega.{arith}
 use Rattle.fields.specs.declared.Refusal.{Refusal}
 use Rattle.fields.specs.declared.Refusal.TheVariants.{BufferTooShort, LogTooLong, OutputTooShort}
 use Rattle.fields.specs.Limits.{cells, log_bytes, log_fields}
@@ -54,13 +53,13 @@ tells_accepted (Declined r) = false
 -- ---- what is told of an ending
 ending_told : (at : ℕ) (ending : Ending) (n k l : ℕ) → Accepted n k l ≡ told_at at ending → ending ≡ run.Accepted n k l
 ending_told at (run.Accepted fields mallocs live) n k l e = cc
-ending_told at (run.Raced field thread variable) n k l e = absurd (let z : ◌≡◌ {A = ℕ} 0 1 = cc in omega arith)
-ending_told at (run.Refused r field) n k l e = absurd (let z : ◌≡◌ {A = ℕ} 0 1 = cc in omega arith)
+ending_told at (run.Raced field thread variable) n k l e = cc
+ending_told at (run.Refused r field) n k l e = cc
 
 not_declined : (r : Refusal) (at : ℕ) (ending : Ending) → Declined r ≡ told_at at ending → ⊥
-not_declined r at (run.Accepted fields mallocs live) e = let z : ◌≡◌ {A = ℕ} 0 1 = cc in omega arith
-not_declined r at (run.Raced field thread variable) e = let z : ◌≡◌ {A = ℕ} 0 1 = cc in omega arith
-not_declined r at (run.Refused s field) e = let z : ◌≡◌ {A = ℕ} 0 1 = cc in omega arith
+not_declined r at (run.Accepted fields mallocs live) e = cc
+not_declined r at (run.Raced field thread variable) e = cc
+not_declined r at (run.Refused s field) e = cc
 
 -- the fields of the log, told with an offset
 abbrev offset : List ℕ → ℕ
@@ -150,7 +149,7 @@ module _ (log : List ℕ) (before after : Lent) (n k l : ℕ) where
     where
       by : JudgedBy log before (Accepted n k l) after → CountsLeft log after n k l
       by (inl q) = ran_counts q
-      by (inr d) = absurd (let v = ap (λ (j : Judged). j.verdict) d.1 in let z : ◌≡◌ {A = ℕ} 0 1 = cc in omega arith)
+      by (inr d) = let v = ap (λ (j : Judged). j.verdict) d.1 in cc
 
 -- ---- replaying
 module _ (log out : List ℕ) (before : Lent) (v : Verdict) (out' : List ℕ) (after : Lent) (e : Replaying log out before v out' after) where
@@ -234,4 +233,4 @@ module _ (log out : List ℕ) (before : Lent) (v : Verdict) (out' : List ℕ) (a
 
 pub replayed_counts : (log out : List ℕ) (before : Lent) (n k l : ℕ) (out' : List ℕ) (after : Lent) → Replaying log out before (Accepted n k l) out' after → CountsLeft log after n k l
 replayed_counts log out before n k l out' after e =
-    judged_counts log before after n k l (replayed_as_judged log out before (Accepted n k l) out' after e (λ q. let z : ◌≡◌ {A = ℕ} 0 1 = cc in omega arith))
+    judged_counts log before after n k l (replayed_as_judged log out before (Accepted n k l) out' after e (λ q. cc))

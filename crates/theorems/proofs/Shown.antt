@@ -10,8 +10,8 @@ use borrow.Author.Tests.{le-leb, lt-ltb, ltb-true}
 use lib.Dec.{leb, ltb}
 use lib.ListN.{drop, length, take}
 use lib.Seq.{drop-append-add, drop-append_seam, take-append-add, take-append_seam}
+use Rattle.std.specs.Prelude.{Ok, Err}
 use Rattle.fields.specs.declared.Field.{Field}
-use Rattle.fields.specs.declared.RecordedCell.{RecordedCell}
 use Rattle.fields.specs.declared.Refusal.{Refusal}
 use Rattle.fields.specs.declared.Refusal.TheVariants.{FieldNotReached, LogTooLong, TooManyFields, TooManyMallocs}
 use Rattle.fields.specs.Bytes.{pack, to_bytes, total}
@@ -19,37 +19,37 @@ use Rattle.fields.specs.Checks.{may_name, value_checks}
 use Rattle.fields.specs.Every.{AreBytes, Every}
 use Rattle.fields.specs.Limits.{header_bytes, log_bytes, log_fields, log_mallocs}
 use Rattle.fields.specs.Order.{Test, in_order, test}
-use Rattle.fields.specs.Read.{Got, Reading, Refused as Unread, field_of, framing_checks, read_field, tag_in, value_in}
+use Rattle.fields.specs.Read.{Reading, field_of, framing_checks, read_field, tag_in, value_in}
 use Rattle.fields.specs.Refusals.{number_of}
 use Rattle.fields.specs.Rows.{is_tag, length_of, row_of, widths_of}
 use Rattle.fields.specs.Write.{field_bytes}
 use Rattle.fields.proofs.Digits.{length_to_bytes}
-use Rattle.fields.proofs.Passing.{all_passed, either, in_order_append, taken}
+use Rattle.fields.proofs.Passing.{all_passed, either}
 use Rattle.fields.proofs.RoundTrip.{Readable, there}
 use Rattle.fields.proofs.Tags.{tag_below}
 use Rattle.fields.proofs.Writing.{length-field_bytes}
 use Rattle.rules.specs.declared.Act.{Act}
-use Rattle.rules.specs.declared.Answer.{Answer}
-use Rattle.rules.specs.declared.Answer.TheVariants.{Go, Race, Refuse}
+use Rattle.rules.specs.declared.Stop.TheVariants.{Race, Refuse}
 use Rattle.rules.specs.declared.Change.{Change}
 use Rattle.rules.specs.declared.Change.TheVariants.{Allocate, Move, Put, Release, Stay}
 use Rattle.rules.specs.declared.ReplayCell.{ReplayCell}
-use Rattle.rules.specs.declared.Shown.TheVariants.{Part, Refused}
+use Rattle.rules.specs.declared.Part.{Part}
 use Rattle.rules.specs.declared.Verdict.{Verdict}
 use Rattle.rules.specs.declared.Verdict.TheVariants as told
-use Rattle.rules.specs.Acts.{gives, touched}
-use Rattle.rules.specs.Check.{check, check_by, each, room_for, valid}
+use Rattle.rules.specs.Acts.{gives}
+use Rattle.rules.specs.Check.{Answer, check, room_for}
 use Rattle.rules.specs.Cases.{bytes_c}
 use Rattle.rules.specs.Commands.{act_of, command_of}
 use Rattle.rules.specs.Effect.{apply, count_field, effect, free, give}
 use Rattle.rules.specs.Log.{located, offset_of, onward, parse, run_bytes}
 use Rattle.rules.specs.Replay.{bytes_of, copy_field, next_cell, replay, replay_bytes}
-use Rattle.rules.specs.Run.{Accepted, End, Ending, Outcome, Raced, Refused as RefusedAt, next, run, run_to, unread, whole}
-use Rattle.rules.specs.Showing.{AlikeButGiven, before_cell, fields_read, mallocs_of, part_in, roomy, shown_in, size_in}
+use Rattle.rules.specs.Run.{Accepted, End, Ending, Outcome, Raced, Refused, next, run, run_to, unread, whole}
+use Rattle.rules.specs.Showing.{AlikeButGiven, Shown, before_cell, fields_read, mallocs_of, part_in, roomy, shown_in, size_in}
 use Rattle.rules.specs.State.{State, fresh, pointer, store, write}
 use Rattle.rules.specs.Words.{is_unset}
-use Rattle.rules.proofs.Checks.{Clear, guard_tests, room_tests, set_tests, vacancy_tests}
+use Rattle.rules.proofs.Checks.{Clear}
 use Rattle.rules.proofs.Tallies.{counted}
+use Rattle.theorems.proofs.Passed.{had_room}
 use Rattle.theorems.proofs.Logs.{fields_of}
 use Rattle.theorems.proofs.Replayed.{next-accepted}
 use Rattle.theorems.proofs.Tables.{same_change, same_field_lem}
@@ -62,12 +62,12 @@ tag_first f r known = let t = tag_below f.tag known in omega arith
 tag_here : (f : Field) → is_tag f.tag ≡ true → tag_in (field_bytes f) ≡ f.tag
 tag_here f known = rw (append-nil (field_bytes f)) at (tag_first f [] known)
 
-got_field : (s : List ℕ) (f : Field) → read_field s ≡ Got f → field_of (tag_in s) (value_in s) ≡ f
+got_field : (s : List ℕ) (f : Field) → read_field s ≡ Ok f → field_of (tag_in s) (value_in s) ≡ f
 unfolding read_field
 got_field s f e =
     let g = field_of (tag_in s) (value_in s) in
-    let p = all_passed Unread (Got g) (framing_checks s ++ value_checks (row_of (tag_in s)) g) (Got f) (λ r q. let z : ◌≡◌ {A = ℕ} 0 1 = cc in omega arith) e in
-    let q : Got g ≡ Got f = p.1 in
+    let p = all_passed Err (Ok g) (framing_checks s ++ value_checks (row_of (tag_in s)) g) (Ok f) (λ r (q : ◌≡◌ {A = Reading} (Err r) (Ok f)). cc) e in
+    let q : Ok g ≡ Ok f = p.1 in
     cc
 
 field_here : (f : Field) → Readable f → field_of (tag_in (field_bytes f)) (value_in (field_bytes f)) ≡ f
@@ -172,7 +172,7 @@ pub record ShownAlike (log copy : List ℕ) (n : ℕ) : Type 0 where
   pub parts : AlikeButGiven (part_in log n) (part_in copy n)
 
 shown_by : (log : List ℕ) (n : ℕ) (t u : Bool) → leb (length log) log_bytes ≡ t → ltb n (length (fields_read log)) ≡ u
-    → shown_in log n ≡ cond t (cond u (Part (offset_of n log) (size_in (from n log))) (Refused FieldNotReached 0)) (Refused LogTooLong 0)
+    → shown_in log n ≡ cond t (cond u (Ok (record { at = offset_of n log; size = size_in (from n log) })) (Err (FieldNotReached, 0))) (Err (LogTooLong, 0))
 unfolding shown_in
 shown_by log n t u e f = rw (e, f) refl
 
@@ -218,34 +218,17 @@ room_clear (Release p) s h e = omega arith
 room_clear (Move x y) s h e = omega arith
 room_clear (Put x v) s h e = omega arith
 
-clear_tests : (s : State) (l : List RecordedCell) (later x : Answer) → (Refuse TooManyMallocs ≡ x → ⊥)
-    → in_order (λ answer. answer) later (each (room_for s) (λ c. Refuse TooManyMallocs) l) ≡ x → Clear (room_for s) l
-clear_tests s [] later x n e = tt
-clear_tests s (c ∷ l) later x n e =
-    let p = taken (room_for s c) (in_order (λ answer. answer) later (each (room_for s) (λ c. Refuse TooManyMallocs) l)) (Refuse TooManyMallocs) x n e in
-    (p.0, clear_tests s l later x n p.1)
-
 -- a command that is not refused by 11 has room
-room_left : (a : Act) (s : State) (x : Answer) → s.mallocs ≤ log_mallocs → (Refuse TooManyMallocs ≡ x → ⊥) → check a s ≡ x → s.mallocs + length (gives a.change) ≤ log_mallocs
-unfolding check_by
-room_left a s x h n e =
-    let rest = each (valid s) Race (touched a) ++ (set_tests a s ++ (vacancy_tests a s ++ guard_tests a s)) in
-    let first = sym (in_order_append (λ (y : Answer). y) Go (room_tests a s) rest) ∙ e in
-    room_clear a.change s h (clear_tests s (gives a.change) (in_order (λ y. y) Go rest) x n first)
-
-not_go : Refuse TooManyMallocs ≡ Go → ⊥
-not_go e = let z : ◌≡◌ {A = ℕ} 0 1 = cc in omega arith
-
-not-race : (v : ℕ) → Refuse TooManyMallocs ≡ Race v → ⊥
-not-race v e = let z : ◌≡◌ {A = ℕ} 0 1 = cc in omega arith
+room_left : (a : Act) (s : State) (x : Answer) → s.mallocs ≤ log_mallocs → (x ≡ Err (Refuse TooManyMallocs) → ⊥) → check a s ≡ x → s.mallocs + length (gives a.change) ≤ log_mallocs
+room_left a s x h n e = room_clear a.change s h (had_room a s x n e)
 
 -- where every command is let through, 11 stops none
 all_roomy : (fs : List Field) (s : State) (n k l : ℕ) → s.mallocs ≤ log_mallocs → (run fs s).verdict ≡ Accepted n k l → roomy s.mallocs fs ≡ fs
 all_roomy [] s n k l h e = refl
 all_roomy (f ∷ fs) s n k l h e =
     let a : Act = act_of f in
-    let here : check a s ≡ Go = next-accepted (check a s) f s (run fs (effect a s)) n k l e in
-    let room = room_left a s Go h not_go here in
+    let here : check a s ≡ Ok tt = next-accepted (check a s) f s (run fs (effect a s)) n k l e in
+    let room = room_left a s (Ok tt) h (λ q. cc) here in
     let count = effect_mallocs a s in
     let later : roomy (effect a s).mallocs fs ≡ fs = all_roomy fs (effect a s) n k l (omega (arith, count, room)) (rw here at e) in
     rw (le-leb (s.mallocs + mallocs_of f) log_mallocs room) (ap (λ (r : List Field). f ∷ r) (rw count at later))
@@ -276,31 +259,36 @@ shown-alike log x y l b e n =
     (λ h. rw p.bytes at (beside fs fresh n p.readable p.copies.readable (rw all at h)))
 
 -- ---- what is shown begins at the field's offset, that of a stop among them
-pub shown_starts : (log : List ℕ) (n at size : ℕ) → shown_in log n ≡ Part at size → at ≡ offset_of n log
+same_part : (p q : Part) → ◌≡◌ {A = Shown} (Ok p) (Ok q) → p ≡ q
+same_part p q e = cc
+
+pub shown_starts : (log : List ℕ) (n at size : ℕ) → shown_in log n ≡ Ok (record { at = at; size = size }) → at ≡ offset_of n log
 unfolding shown_in
 shown_starts log n at size e =
-    let whole = Part (offset_of n log) (size_in (from n log)) in
-    let p = all_passed (λ r. Refused r 0) whole
+    let whole : Shown = Ok (record { at = offset_of n log; size = size_in (from n log) }) in
+    let p = all_passed (λ r. Err (r, 0)) whole
     (test (leb (length log) log_bytes) LogTooLong ∷ test (ltb n (length (fields_read log))) FieldNotReached ∷ [])
-    (Part at size) (λ r q. let z : ◌≡◌ {A = ℕ} 0 1 = cc in omega arith) e in
-    let same : whole ≡ Part at size = p.1 in
-    let there : offset_of n log ≡ at = cc in
-    sym there
+    (Ok (record { at = at; size = size })) (λ r (q : ◌≡◌ {A = Shown} (Err (r, 0)) (Ok (record { at = at; size = size }))). cc) e in
+    sym (ap (λ (part : Part). part.at) (same_part (record { at = offset_of n log; size = size_in (from n log) }) (record { at = at; size = size }) p.1))
 
 -- ---- the field of a stop is shown, unless a reading check gave the stop
 -- the refusals of the reading checks are 3 to 11
 abbrev pub ByReading : Refusal → Type 0
 ByReading r = number_of r ≤ 11
 
-says : (f : Field) (ts : List (Test Refusal)) (r : Refusal) → Every (λ t. ByReading t.says) ts → in_order Unread (Got f) ts ≡ Unread r → ByReading r
-says f [] r all e = absurd (let z : ◌≡◌ {A = ℕ} 0 1 = cc in omega arith)
+-- what the tests of a field to be read come to
+abbrev read_by : Field → List (Test Refusal) → Reading
+read_by f ts = in_order Err (Ok f) ts
+
+says : (f : Field) (ts : List (Test Refusal)) (r : Refusal) → Every (λ t. ByReading t.says) ts → read_by f ts ≡ Err r → ByReading r
+says f [] r all e = cc
 says f (t ∷ ts) r all e = by t.passes e (λ q. says f ts r all.1 q)
   where
-    by : (b : Bool) → cond b (in_order Unread (Got f) ts) (Unread t.says) ≡ Unread r → (in_order Unread (Got f) ts ≡ Unread r → ByReading r) → ByReading r
+    by : (b : Bool) → cond b (read_by f ts) (Err t.says) ≡ Err r → (read_by f ts ≡ Err r → ByReading r) → ByReading r
     by true e later = later e
     by false e later = let same : t.says ≡ r = cc in subst ByReading same all.0
 
-read_refusal : (s : List ℕ) (r : Refusal) → read_field s ≡ Unread r → ByReading r
+read_refusal : (s : List ℕ) (r : Refusal) → read_field s ≡ Err r → ByReading r
 unfolding read_field
 read_refusal s r e =
     let f = field_of (tag_in s) (value_in s) in
@@ -308,24 +296,21 @@ read_refusal s r e =
     (omega arith, (omega arith, (omega arith, (omega arith, (omega arith, (omega arith, (omega arith, (omega arith, tt)))))))) e
 
 pub parse_end : (k : ℕ) (b : List ℕ) (r : Refusal) → (parse k b).end ≡ unread r → ByReading r
-parse_end zero [] r e = absurd (let z : ◌≡◌ {A = ℕ} 0 1 = cc in omega arith)
+parse_end zero [] r e = cc
 parse_end zero (x ∷ b) r e = let same : TooManyFields ≡ r = cc in subst ByReading same (omega arith)
-parse_end (suc k) [] r e = absurd (let z : ◌≡◌ {A = ℕ} 0 1 = cc in omega arith)
+parse_end (suc k) [] r e = cc
 parse_end (suc k) (x ∷ b) r e = by (read_field (x ∷ b)) refl e (λ rest q. parse_end k rest r q)
   where
     by : (y : Reading) → read_field (x ∷ b) ≡ y → (onward y (x ∷ b) (λ rest. parse k rest)).end ≡ unread r
         → ((rest : List ℕ) → (parse k rest).end ≡ unread r → ByReading r) → ByReading r
-    by (Got f) read e later = later (drop (header_bytes + length_of f.tag) (x ∷ b)) e
-    by (Unread q) read e later = let same : q ≡ r = cc in read_refusal (x ∷ b) r (read ∙ ap Unread same)
+    by (Ok f) read e later = later (drop (header_bytes + length_of f.tag) (x ∷ b)) e
+    by (Err q) read e later = let same : q ≡ r = cc in read_refusal (x ∷ b) r (read ∙ ap Err same)
 
 -- a stop at field n by what the field does: a race, or a refusal that no reading check gives
 abbrev pub ByDeed : Ending → ℕ → Type 0
 ByDeed (Accepted fields mallocs live) n = ⊥
 ByDeed (Raced field thread variable) n = field ≡ n
-ByDeed (RefusedAt r field) n = (field ≡ n) × (11 < number_of r)
-
-not_eleven : (r : Refusal) → 11 < number_of r → Refuse TooManyMallocs ≡ Refuse r → ⊥
-not_eleven r h e = let same : TooManyMallocs ≡ r = cc in let n : number_of TooManyMallocs ≡ number_of r = ap number_of same in omega arith
+ByDeed (Refused r field) n = (field ≡ n) × (11 < number_of r)
 
 reached : (end : End) (fs : List Field) (s : State) (n : ℕ) → ((r : Refusal) → end ≡ unread r → ByReading r) → s.mallocs ≤ log_mallocs
     → ByDeed (run_to end fs s).verdict n → n < s.fields + length (roomy s.mallocs fs)
@@ -343,16 +328,16 @@ reached end (f ∷ fs) s n reading h stop = by (check (act_of f) s) refl stop (�
     by : (x : Answer) → check (act_of f) s ≡ x → ByDeed (next x s.fields f s later).verdict n
         → ((effect (act_of f) s).mallocs ≤ log_mallocs → ByDeed later.verdict n → n < (effect (act_of f) s).fields + length (roomy (effect (act_of f) s).mallocs fs))
         → n < s.fields + length (roomy s.mallocs (f ∷ fs))
-    by Go e stop on =
-        let room = room_left (act_of f) s Go h not_go e in
+    by (Ok _) e stop on =
+        let room = room_left (act_of f) s (Ok tt) h (λ q. cc) e in
         let count = effect_mallocs (act_of f) s in
         let far = rw count at (on (omega (arith, count, room)) stop) in
         within room (omega (arith, far, (counted (act_of f) s).fields))
-    by (Race p) e stop on = within (room_left (act_of f) s (Race p) h (not-race p) e) (omega (arith, stop))
-    by (Refuse r) e stop on = within (room_left (act_of f) s (Refuse r) h (not_eleven r stop.1) e) (omega (arith, stop.0))
+    by (Err (Race p)) e stop on = within (room_left (act_of f) s (Err (Race p)) h (λ q. cc) e) (omega (arith, stop))
+    by (Err (Refuse r)) e stop on = within (room_left (act_of f) s (Err (Refuse r)) h (λ q. let same : r ≡ TooManyMallocs = cc in omega (arith, stop.1, ap number_of same)) e) (omega (arith, stop.0))
 
 pub stop_shown : (log : List ℕ) (n : ℕ) → length log ≤ log_bytes → ByDeed (run_bytes log_fields log fresh).verdict n
-    → shown_in log n ≡ Part (offset_of n log) (size_in (drop (offset_of n log) log))
+    → shown_in log n ≡ Ok (record { at = offset_of n log; size = size_in (drop (offset_of n log) log) })
 stop_shown log n h stop =
     let end = parse_end log_fields log in
     let far = rw (fresh_fields, fresh_mallocs) at (reached (parse log_fields log).end (parse log_fields log).fields fresh n end (omega (arith, fresh_mallocs)) stop) in
@@ -366,16 +351,16 @@ StopsAt (told.Refused r field o) n offset = (field ≡ n) × (o ≡ offset)
 StopsAt (told.Declined r) n offset = ⊥
 
 -- the part at a stop's field number starts at the stop's offset
-pub stop_starts : (log : List ℕ) (ending : Ending) (n offset at size : ℕ) → StopsAt (located log ending) n offset → shown_in log n ≡ Part at size → at ≡ offset
+pub stop_starts : (log : List ℕ) (ending : Ending) (n offset at size : ℕ) → StopsAt (located log ending) n offset → shown_in log n ≡ Ok (record { at = at; size = size }) → at ≡ offset
 stop_starts log (Accepted fields mallocs live) n offset at size stop shown = absurd stop
 stop_starts log (Raced field thread variable) n offset at size stop shown = shown_starts log n at size shown ∙ (rw stop.0 at stop.1)
-stop_starts log (RefusedAt r field) n offset at size stop shown = shown_starts log n at size shown ∙ (rw stop.0 at stop.1)
+stop_starts log (Refused r field) n offset at size stop shown = shown_starts log n at size shown ∙ (rw stop.0 at stop.1)
 
 -- ---- case C: the field that races, and none after it
-pub race_of_c : (shown_in bytes_c 3 ≡ Part 22 6) × (part_in bytes_c 3 ≡ 6 ∷ 3 ∷ 0 ∷ 1 ∷ 24 ∷ 24 ∷ [])
+pub race_of_c : (shown_in bytes_c 3 ≡ Ok (record { at = 22; size = 6 })) × (part_in bytes_c 3 ≡ 6 ∷ 3 ∷ 0 ∷ 1 ∷ 24 ∷ 24 ∷ [])
 unfolding row_of is_tag widths_of length_of may_name field_of read_field command_of shown_in
 race_of_c = (refl, refl)
 
-pub past_c : (shown_in bytes_c 4 ≡ Refused FieldNotReached 0) × (part_in bytes_c 4 ≡ [])
+pub past_c : (shown_in bytes_c 4 ≡ Err (FieldNotReached, 0)) × (part_in bytes_c 4 ≡ [])
 unfolding row_of is_tag widths_of length_of may_name field_of read_field command_of shown_in
 past_c = (refl, refl)

@@ -5,12 +5,12 @@ use mathlib.Core.Path.{◌≡◌, ◌∙◌, refl}
 use mathlib.Core.List.{List, [], ◌∷◌, map}
 use lib.Dec.{eqb}
 use lib.ListN.{length, length-map, length-replicate, length-set}
+use Rattle.std.specs.Prelude.{Ok, Err}
 use Rattle.fields.proofs.Passing.{either}
 use Rattle.fields.specs.declared.Field.{Field}
 use Rattle.fields.specs.Limits.{cells}
 use Rattle.rules.specs.declared.Act.{Act}
-use Rattle.rules.specs.declared.Answer.{Answer}
-use Rattle.rules.specs.declared.Answer.TheVariants.{Go, Race, Refuse}
+use Rattle.rules.specs.declared.Stop.TheVariants.{Race, Refuse}
 use Rattle.rules.specs.declared.Change.{Change}
 use Rattle.rules.specs.declared.Change.TheVariants.{Stay, Allocate, Release, Move, Put}
 use Rattle.rules.specs.declared.DataPlace.{DataPlace}
@@ -20,7 +20,7 @@ use Rattle.rules.specs.declared.Place.TheVariants.{PointerWord, SelectorWord}
 use Rattle.rules.specs.Words.{after_free, cell_of, invalidated, is_unset, unset}
 use Rattle.rules.specs.State.{State, board_pointers, board_variables, freed, fresh, heap_selectors, live, never_used, numbers_with, pointer, pointers_with, selectors_with, status_of, store, variables_with, word, write}
 use Rattle.rules.specs.Acts.{data_place, place, value}
-use Rattle.rules.specs.Check.{check}
+use Rattle.rules.specs.Check.{Answer, check}
 use Rattle.rules.specs.Commands.{act_of}
 use Rattle.rules.specs.Effect.{apply, count_field, effect, free, give}
 use Rattle.rules.specs.Run.{End, Outcome, next, run_to}
@@ -55,7 +55,7 @@ length-numbers_with (CellNumber j) n l = length-set l j n
 
 -- ---- each effect
 module _ (s : State) (z : Sized s) where
-  sized_write : (x : Place) (w : ℕ) → Sized (write x w s)
+  pub sized_write : (x : Place) (w : ℕ) → Sized (write x w s)
   unfolding write
   sized_write x w = record {
     pointers = length-pointers_with x w s.pointers ∙ z.pointers;
@@ -65,7 +65,7 @@ module _ (s : State) (z : Sized s) where
     status = z.status;
   }
 
-  sized_store : (x : DataPlace) (n : ℕ) → Sized (store x n s)
+  pub sized_store : (x : DataPlace) (n : ℕ) → Sized (store x n s)
   unfolding store
   sized_store x n = record {
     pointers = z.pointers;
@@ -75,7 +75,7 @@ module _ (s : State) (z : Sized s) where
     status = z.status;
   }
 
-  sized_give : (p c d : ℕ) → Sized (give p c d s)
+  pub sized_give : (p c d : ℕ) → Sized (give p c d s)
   unfolding give
   sized_give p c d = record {
     pointers = length-set s.pointers p c ∙ z.pointers;
@@ -85,7 +85,7 @@ module _ (s : State) (z : Sized s) where
     status = length-set s.status c live ∙ z.status;
   }
 
-  sized_free : (c : ℕ) → Sized (free c s)
+  pub sized_free : (c : ℕ) → Sized (free c s)
   unfolding free
   sized_free c = record {
     pointers = length-map s.pointers (after_free c) ∙ z.pointers;
@@ -102,7 +102,7 @@ module _ (s : State) (z : Sized s) where
   sized_change (Move x y) = sized_write (place s x) (word s (place s y))
   sized_change (Put x v) = sized_store (data_place s x) (value s v)
 
-sized_count : (s : State) → Sized s → Sized (count_field s)
+pub sized_count : (s : State) → Sized s → Sized (count_field s)
 unfolding count_field
 sized_count s z = record {
   pointers = z.pointers;
@@ -117,9 +117,9 @@ sized_effect a s z = sized_count (apply a.change s) (sized_change s z a.change)
 
 -- ---- a run
 sized_next : (k : Answer) (f : Field) (s : State) (later : Outcome) → Sized s → Sized later.state → Sized (next k s.fields f s later).state
-sized_next Go f s later z y = y
-sized_next (Race v) f s later z y = z
-sized_next (Refuse r) f s later z y = z
+sized_next (Ok _) f s later z y = y
+sized_next (Err (Race v)) f s later z y = z
+sized_next (Err (Refuse r)) f s later z y = z
 
 pub sized_run : (end : End) (fs : List Field) (s : State) → Sized s → Sized (run_to end fs s).state
 sized_run end [] s z = z

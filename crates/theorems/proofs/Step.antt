@@ -5,12 +5,13 @@ use mathlib.Core.Path.{◌∙◌, ◌≡◌, refl}
 use mathlib.Core.Bool.{true}
 use borrow.Author.Tests.{eqb-false, not-true}
 use lib.Dec.{eqb}
+use Rattle.std.specs.Prelude.{Ok}
 use Rattle.fields.proofs.Passing.{every_cut}
 use Rattle.rules.specs.declared.ReplayCell.{ReplayCell}
 use Rattle.rules.specs.declared.Change.{Change}
 use Rattle.rules.specs.declared.Change.TheVariants.{Allocate, Move, Put, Release, Stay}
 use Rattle.rules.specs.declared.Act.{Act}
-use Rattle.rules.specs.declared.Answer.TheVariants.{Go, Race}
+use Rattle.rules.specs.declared.Stop.TheVariants.{Race}
 use Rattle.rules.specs.Words.{cell_of, is_unset, is_valid}
 use Rattle.rules.specs.State.{State, live, never_used, pointer, status_of}
 use Rattle.rules.specs.Acts.{data_through, frees, gives, place, pointer_through, through, touched, value, value_through}
@@ -96,10 +97,10 @@ module _ {R S : State} (m : Matching) (P : Pair R S (flat m)) (k : ReplayCell) w
   pub named_step : (a : Act) → Apt S k a.change → NamedAct a → NamedAct (copy_act R k a)
   named_step a z n = (n.0, named_change a.change z n.1)
 
-  pub check_step : (a : Act) → Apt S k a.change → check a R ≡ Go → check (copy_act R k a) S ≡ Go
+  pub check_step : (a : Act) → Apt S k a.change → check a R ≡ Ok tt → check (copy_act R k a) S ≡ Ok tt
   check_step a z e = pass_by (each (valid S) Race (touched (copy_act R k a))) (copy_act R k a) S (check_sim a z (passed a R e))
 
-  pub step : (a : Act) → Apt S k a.change → Named a.change → check a R ≡ Go
+  pub step : (a : Act) → Apt S k a.change → Named a.change → check a R ≡ Ok tt
       → Pair (effect a R) (effect (copy_act R k a) S) (flat (rematch (gives a.change) (gives (copy_act R k a).change) m))
   step a z n e =
       let g = passed a R e in

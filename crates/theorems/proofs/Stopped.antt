@@ -5,12 +5,12 @@ use mathlib.Core.Path.{◌≡◌, refl}
 use mathlib.Core.List.{List, [], ◌∷◌, ◌++◌}
 use native.Mathlib.Omega.{arith}
 use lib.ListN.{length}
+use Rattle.std.specs.Prelude.{Ok, Err}
 use Rattle.fields.specs.declared.Field.{Field}
 use Rattle.fields.specs.Limits.{log_fields}
-use Rattle.rules.specs.declared.Answer.{Answer}
-use Rattle.rules.specs.declared.Answer.TheVariants.{Go, Race, Refuse}
+use Rattle.rules.specs.declared.Stop.TheVariants.{Race, Refuse}
 use Rattle.rules.specs.State.{State, fresh}
-use Rattle.rules.specs.Check.{check}
+use Rattle.rules.specs.Check.{Answer, check}
 use Rattle.rules.specs.Commands.{act_of}
 use Rattle.rules.specs.Effect.{effect}
 use Rattle.rules.specs.Run.{End, Outcome, end_verdict, run, run_to, unread, whole}
@@ -35,14 +35,14 @@ before (unread r) [] s = record { rest = []; front = refl; alone = refl; number 
 before end (f ∷ fs) s = by (check (act_of f) s) refl (before end fs (effect (act_of f) s))
   where
     by : (x : Answer) → check (act_of f) s ≡ x → Before end fs (effect (act_of f) s) → Before end (f ∷ fs) s
-    by Go e later = record {
+    by (Ok _) e later = record {
       rest = later.rest;
       front = rw e (rw (← later.front) refl);
       alone = rw (e, e) later.alone;
       number = rw e (omega (arith, later.number, (counted (act_of f) s).fields));
     }
-    by (Race v) e later = record { rest = f ∷ fs; front = rw e refl; alone = rw e refl; number = rw e (omega arith) }
-    by (Refuse r) e later = record { rest = f ∷ fs; front = rw e refl; alone = rw e refl; number = rw e (omega arith) }
+    by (Err (Race v)) e later = record { rest = f ∷ fs; front = rw e refl; alone = rw e refl; number = rw e (omega arith) }
+    by (Err (Refuse r)) e later = record { rest = f ∷ fs; front = rw e refl; alone = rw e refl; number = rw e (omega arith) }
 
 -- of the bytes of a log
 pub record StopsBefore (log : List ℕ) : Type 0 where

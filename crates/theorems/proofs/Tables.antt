@@ -106,14 +106,14 @@ record Fine (r : Row) (command : Field → Act) : Type 0 where
 -- a command that gives out no cell is copied as it is, and so is its field
 pub same_change : (s : State) (k : ReplayCell) (c : Change) → gives c ≡ [] → copy_change s k c ≡ c
 same_change s k Stay e = refl
-same_change s k (Allocate p c d) e = absurd (let z : ◌≡◌ {A = ℕ} 0 1 = cc in omega arith)
+same_change s k (Allocate p c d) e = cc
 same_change s k (Release p) e = refl
 same_change s k (Move x y) e = refl
 same_change s k (Put x v) e = refl
 
 pub same_field_lem : (c : Change) (f : Field) → gives c ≡ [] → recast c f ≡ f
 same_field_lem Stay f e = refl
-same_field_lem (Allocate p c d) f e = absurd (let z : ◌≡◌ {A = ℕ} 0 1 = cc in omega arith)
+same_field_lem (Allocate p c d) f e = cc
 same_field_lem (Release p) f e = refl
 same_field_lem (Move x y) f e = refl
 same_field_lem (Put x v) f e = refl

@@ -9,6 +9,9 @@ use native.Mathlib.Omega.{arith}
 use borrow.Author.Tests.{eqb-true, ne_eqb}
 use lib.Dec.{eqb}
 use lib.ListN.{get_or-eq_default, get_or-map, get_or, length, set, take}
+use Rattle.std.proofs.lemmas.List.{map-set}
+use Rattle.std.proofs.Math.Seq.{map-set_same}
+use Rattle.std.specs.Prelude.{Ok, Err}
 use Rattle.fields.specs.declared.RecordedCell.{RecordedCell}
 use Rattle.fields.specs.declared.Field.{Field}
 use Rattle.fields.specs.declared.Refusal.TheVariants.{UnsetPointer}
@@ -28,13 +31,12 @@ use Rattle.rules.specs.declared.Act.{Act}
 use Rattle.rules.specs.declared.Place.{Place}
 use Rattle.rules.specs.declared.Place.TheVariants.{PointerWord, SelectorWord}
 use Rattle.rules.specs.declared.DataPlace.{DataPlace}
-use Rattle.rules.specs.declared.Answer.{Answer}
-use Rattle.rules.specs.declared.Answer.TheVariants.{Go, Race, Refuse}
+use Rattle.rules.specs.declared.Stop.TheVariants.{Race, Refuse}
 use Rattle.rules.specs.Words.{after_free, cell_of, invalidated, is_unset, is_valid, unset, word_at}
 use Rattle.rules.specs.State.{State, freed, fresh, live, never_used, pointer, status_of, store, with_status, with_words, word, write}
 use Rattle.rules.specs.Acts.{data_place, frees, gives, place, pointer_through, through, touched, value}
 use Rattle.rules.specs.Commands.{act_of}
-use Rattle.rules.specs.Check.{check, check_by, holds, points, same_as_wanted, valid}
+use Rattle.rules.specs.Check.{Answer, check, check_by, holds, points, same_as_wanted, valid}
 use Rattle.rules.specs.Effect.{apply, change_own, change_word, count_field, effect, free, give}
 use Rattle.rules.specs.Run.{Accepted, End, Ending, Outcome, end_verdict, next, run, run_to, unread, whole}
 use Rattle.rules.specs.Matching.{Live, Owned}
@@ -42,7 +44,7 @@ use Rattle.rules.specs.Plain.{Distinct, apply_plain, check_plain, free_plain, gi
 use Rattle.rules.proofs.Checks.{Clear, each_same}
 use Rattle.theorems.specs.Beside.{passing}
 use Rattle.theorems.specs.Renewed.{NewCells, field_at}
-use Rattle.theorems.proofs.Basics.{eqb_self, every_map, map-set, set-get_or, split}
+use Rattle.theorems.proofs.Basics.{eqb_self, every_map, split}
 use Rattle.theorems.proofs.Words.{cell-after_free, cell-cell, cell-invalidated, cell_small, cell-unset, freed_at, unset-cell, valid_below, valid-invalidated}
 use Rattle.theorems.proofs.States.{Sized, Within, cleared_at, eq_place, status_set, word-free, word-give, word_write}
 use Rattle.theorems.proofs.Passed.{looked, passed}
@@ -63,7 +65,7 @@ word_cells : (l : List ℕ) (i : ℕ) → word_at (map cell_of l) i ≡ cell_of 
 word_cells l i = subst (λ (d : ℕ). get_or (map cell_of l) i d ≡ cell_of (word_at l i)) cell-unset (get_or-map cell_of l i unset)
 
 cells-invalidated : (i : ℕ) (l : List ℕ) → map cell_of (change_word invalidated i l) ≡ map cell_of l
-cells-invalidated i l = map-set cell_of l i (invalidated (word_at l i)) ∙ set-get_or (map cell_of l) i unset (cell_of (invalidated (word_at l i))) (word_cells l i ∙ sym (cell-invalidated (word_at l i)))
+cells-invalidated i l = map-set_same cell_of l i (invalidated (word_at l i)) unset (cell-invalidated (word_at l i))
 
 cells-unset : (i : ℕ) (l : List ℕ) → map cell_of (change_word (λ w. unset) i l) ≡ change_word (λ w. unset) i (map cell_of l)
 cells-unset i l = map-set cell_of l i unset ∙ ap (set (map cell_of l) i) cell-unset
@@ -285,7 +287,7 @@ clean_apply (Move x y) s l C n f v u =
     (honest_write s (place s x) (place s y) C.inv.sized (found s x C.inv n.0 e.0 h.0).within (found s y C.inv n.1 e.1 h.1).owned C.honest, C.unused, C.distinct)
 clean_apply (Put x w) s l C n f v u = (honest_same s (store (data_place s x) (value s w) s) refl refl refl C.honest, C.unused, C.distinct)
 
-clean_step : (a : Act) (s : State) (l : List RecordedCell) → Clean s (gives a.change ++ l) → Named a.change → check a s ≡ Go → Clean (effect a s) l
+clean_step : (a : Act) (s : State) (l : List RecordedCell) → Clean s (gives a.change ++ l) → Named a.change → check a s ≡ Ok tt → Clean (effect a s) l
 unfolding count_field
 clean_step a s l C n e =
     let g = passed a s e in
@@ -297,11 +299,11 @@ clean_step a s l C n e =
 unfoldable pub unmarked_outcome : Outcome → Outcome
 unmarked_outcome r = record { verdict = r.verdict; state = unmarked r.state }
 
-unmarked_next : (x : Answer) (f : Field) (s : State) (r q : Outcome) → (x ≡ Go → q ≡ unmarked_outcome r) → next x (unmarked s).fields f (unmarked s) q ≡ unmarked_outcome (next x s.fields f s r)
+unmarked_next : (x : Answer) (f : Field) (s : State) (r q : Outcome) → (x ≡ Ok tt → q ≡ unmarked_outcome r) → next x (unmarked s).fields f (unmarked s) q ≡ unmarked_outcome (next x s.fields f s r)
 unfolding unmarked_outcome unmarked
-unmarked_next Go f s r q h = h refl
-unmarked_next (Race v) f s r q h = refl
-unmarked_next (Refuse v) f s r q h = refl
+unmarked_next (Ok _) f s r q h = h refl
+unmarked_next (Err (Race v)) f s r q h = refl
+unmarked_next (Err (Refuse v)) f s r q h = refl
 
 unmarked_end : (end : End) (s : State) → end_verdict end (unmarked s) ≡ end_verdict end s
 unfolding unmarked
@@ -354,7 +356,7 @@ new_at : (fs : List Field) (s : State) (n k l : ℕ) → Clean s (given_by fs) �
 new_at [] s n k l C a e i h = absurd (not-suc-le-zero h)
 new_at (f ∷ fs) s n k l C a e zero h = (every_cut (λ c. status_of s c.0 ≡ never_used) (gives (act_of f).change) (given_by fs) C.unused).0
 new_at (f ∷ fs) s n k l C a e (suc i) h =
-    let here : check (act_of f) s ≡ Go = next-accepted (check (act_of f) s) f s (run fs (effect (act_of f) s)) n k l e in
+    let here : check (act_of f) s ≡ Ok tt = next-accepted (check (act_of f) s) f s (run fs (effect (act_of f) s)) n k l e in
     rw here (new_at fs (effect (act_of f) s) n k l (clean_step (act_of f) s (given_by fs) C a.0.1 here) a.1 (rw here at e) i (le_of_suc-le-suc h))
 
 pub new_cells : (fs : List Field) (n k l : ℕ) → All NamedAct fs → Distinct (given_by fs) → (run fs fresh).verdict ≡ Accepted n k l → NewCells fs
@@ -372,12 +374,11 @@ given_front (f ∷ fs) s = by (check (act_of f) s) refl (given_front fs (effect 
   where
     by : (x : Answer) → check (act_of f) s ≡ x → (rest : List RecordedCell) × (given_by fs ≡ given_by (passing fs (effect (act_of f) s)) ++ rest)
         → (rest : List RecordedCell) × (given_by (f ∷ fs) ≡ given_by (passing (f ∷ fs) s) ++ rest)
-    by Go e later =
+    by (Ok _) e later =
         let here = gives (act_of f).change in
         let passed = given_by (passing fs (effect (act_of f) s)) in
         rw e (later.0, ap (λ (l : List RecordedCell). here ++ l) later.1 ∙ sym (append_assoc here passed later.0))
-    by (Race v) e later = rw e (given_by (f ∷ fs), refl)
-    by (Refuse r) e later = rw e (given_by (f ∷ fs), refl)
+    by (Err stop) e later = rw e (given_by (f ∷ fs), refl)
 
 pub passing_distinct : (fs : List Field) (s : State) → Distinct (given_by fs) → Distinct (given_by (passing fs s))
 passing_distinct fs s d = let front = given_front fs s in distinct_front (given_by (passing fs s)) front.0 (rw front.1 at d)

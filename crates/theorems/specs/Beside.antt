@@ -1,6 +1,6 @@
 -- The rules beside source 004: its notions as they are read off a state, and its commands as the commands of the rules say them.
 -- Where document 01 differs from the paper, or the paper is silent, a comment says so. Assumes nothing.
-use Rattle.std.specs.Prelude.{ℕ, ◌+◌, ◌*◌, ◌%◌, ◌≡◌, Bool, true, false, not, cond, ◌⊎◌, List, [], ◌∷◌, ◌++◌, eqb, get_or}
+use Rattle.std.specs.Prelude.{ℕ, ◌+◌, ◌*◌, ◌%◌, ◌≡◌, Bool, true, false, not, cond, ◌⊎◌, List, [], ◌∷◌, ◌++◌, eqb, get_or, Ok, Err}
 use Rattle.fields.specs.declared.Field.{Field}
 use Rattle.fields.specs.declared.RecordedCell.{RecordedCell}
 use Rattle.fields.specs.Every.{Every}
@@ -12,15 +12,13 @@ use Rattle.rules.specs.declared.Guard.TheVariants.{Always, Same, Equal}
 use Rattle.rules.specs.declared.Change.{Change}
 use Rattle.rules.specs.declared.Change.TheVariants.{Allocate, Release, Move, Put}
 use Rattle.rules.specs.declared.Act.{Act}
-use Rattle.rules.specs.declared.Answer.{Answer}
-use Rattle.rules.specs.declared.Answer.TheVariants.{Go, Race, Refuse}
 use Rattle.rules.specs.declared.Place.{Place}
 use Rattle.rules.specs.declared.Place.TheVariants.{PointerWord, SelectorWord}
 use Rattle.rules.specs.Words.{is_valid, cell_of, is_unset}
 use Rattle.rules.specs.State.{State, never_used, freed, status_of, number_at, word, pointer}
 use Rattle.rules.specs.Acts.{gives}
 use Rattle.rules.specs.Commands.{does, asserts, act_of}
-use Rattle.rules.specs.Check.{check}
+use Rattle.rules.specs.Check.{Answer, check}
 use Rattle.rules.specs.Effect.{effect}
 use Rattle.theorems.specs.Paper.{Selector, index, Cond, same_pointers, same_data, negated, Com, Assert, Malloc, Free, Load, Store, Copy, ReadData, WriteData, Compute, Adr, seg, cell, PExp, pointer_var, next_of, DExp, data_var, data_of, Partial, undefined, defined, Update, pointer_to, data_to, Computation, then, heap_of, freed_in, valid_in, contained, NotValid, PointerRace, RaceFree, Rule, MemoryManaged}
 
@@ -127,9 +125,8 @@ FirstNotValid valid (p ∷ ps) v = (NotValid valid p × (p ≡ v)) ⊎ ((valid (
 -- ---- a log as a computation
 -- the fields that pass, up to the first that does not
 abbrev pub before_stop : Answer → Field → List Field → List Field
-before_stop Go f later = f ∷ later
-before_stop (Race v) f later = []
-before_stop (Refuse r) f later = []
+before_stop (Ok _) f later = f ∷ later
+before_stop (Err stop) f later = []
 
 abbrev pub passing : List Field → State → List Field
 passing [] s = []

@@ -1,10 +1,10 @@
 -- A log that is too long is refused, and in any other the field is sought from the start.
-use Rattle.std.proofs.Common.{◌∙◌}
+use Rattle.std.proofs.Common.{◌∙◌, sym}
 use Rattle.show.proofs.Seeking.{sought, too_long}
 use Rattle.show.proofs.answer_in.Goals as goal
 
-pub returns-then-log-gt-BYTES : goal.returns-then-log-gt-BYTES
-returns-then-log-gt-BYTES c = too_long c.args.log.now c.args.number c.if-log-gt-BYTES.true
+pub returns-in_default : goal.returns-in_default
+returns-in_default c = too_long c.args.log.now c.args.number (sym c.in_default.ensures.fits)
 
 pub returns : goal.returns
-returns c = c.seek.ensures ∙ sought c.args.log.now c.args.number c.if-log-gt-BYTES.false
+returns c = c.ok_or.ensures.value ∙ rw (c.seek.ensures, c.in-Ok.ensures.same) (sought c.args.log.now c.args.number (sym c.in-Ok.ensures.fits))

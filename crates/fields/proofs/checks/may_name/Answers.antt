@@ -13,6 +13,6 @@ pub returns-then-x-lt-SHARED : goal.returns-then-x-lt-SHARED
 unfolding may_name
 returns-then-x-lt-SHARED c = simp (lt-ltb _ _ c.if-x-lt-SHARED.true)
 
-pub returns : goal.returns
+pub returns-else-x-lt-SHARED : goal.returns-else-x-lt-SHARED
 unfolding may_name
-returns c = simp (le-ltb _ _ c.if-x-lt-SHARED.false) (owned c.args.x c.args.thread c.if-x-lt-SHARED.false _ _ refl refl)
+returns-else-x-lt-SHARED c = simp (le-ltb _ _ c.if-x-lt-SHARED.false) (owned c.args.x c.args.thread c.if-x-lt-SHARED.false _ _ refl refl)

@@ -1,57 +1,30 @@
--- `fields::reader::field_of` meets its contract.
 use Rattle.fields.proofs.Framing.{read_numbers}
 use Rattle.fields.specs.Rows.{widths_of}
-use Rattle.std.proofs.Common.{arith}
 use Rattle.fields.proofs.reader.field_of.Goals as goal
-
-pub bounds-value-0 : goal.bounds-value-0
-unfolding widths_of
-bounds-value-0 c = omega arith
-
-pub slot_at-requires : goal.slot_at-requires
-unfolding widths_of
-slot_at-requires c = omega arith
-
-pub slot_at-requires-2 : goal.slot_at-requires-2
-unfolding widths_of
-slot_at-requires-2 c = omega arith
-
-pub slot_at-requires-3 : goal.slot_at-requires-3
-unfolding widths_of
-slot_at-requires-3 c = omega arith
-
-pub u16_at-requires : goal.u16_at-requires
-unfolding widths_of
-u16_at-requires c = omega arith
-
-pub u32_at-requires : goal.u32_at-requires
-unfolding widths_of
-u32_at-requires c = omega arith
 
 pub returns : goal.returns
 unfolding widths_of
 returns c =
-    let a = c.args in
     read_numbers
-    a.tag
-    a.row
-    a.value.now
-    c.slot_width-second_at.result
-    c.slot_width.result
-    c.slot_width-2.result
-    c.width_if.result
-    c.slot_at.result
-    c.slot_at-2.result
-    c.slot_at-3.result
-    c.u16_at.result
-    c.u32_at.result
-    (omega arith)
+    c.args.tag
+    c.args.row
+    c.args.value.now
+    _
+    _
+    _
+    _
+    _
+    _
+    _
+    _
+    _
+    c.requires
     c.slot_width-second_at.ensures
     c.slot_width.ensures
     c.slot_width-2.ensures
     c.width_if.ensures
-    c.slot_at.ensures
-    c.slot_at-2.ensures
-    c.slot_at-3.ensures
-    c.u16_at.ensures
-    c.u32_at.ensures
+    (rw (c.bytes_at.ensures, c.is_present.ensures) at c.from_le_bytes.ensures)
+    (rw (c.bytes_at-2.ensures, c.is_present-2.ensures) at c.from_le_bytes-2.ensures)
+    (rw (c.bytes_at-3.ensures, c.is_present-3.ensures) at c.from_le_bytes-3.ensures)
+    (rw c.bytes_at-4.ensures at c.from_le_bytes-4.ensures)
+    (rw c.bytes_at-5.ensures at c.from_le_bytes-5.ensures)

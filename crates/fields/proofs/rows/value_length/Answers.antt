@@ -16,9 +16,8 @@ lengths = map length_by rows
 
 pub returns-then-at-lt-TAGS : goal.returns-then-at-lt-TAGS
 unfolding lengths length_by length_of row_of widths_of
-returns-then-at-lt-TAGS c =
-    get_or-map length_by rows c.args.tag no_row _ (search rules)
+returns-then-at-lt-TAGS c = rw c.from-at.ensures (get_or-map length_by rows c.args.tag no_row _ (search rules))
 
-pub returns : goal.returns
+pub returns-else-at-lt-TAGS : goal.returns-else-at-lt-TAGS
 unfolding length_by length_of row_of widths_of
-returns c = ap length_by (sym (get_or-eq_default rows no_row c.if-at-lt-TAGS.false))
+returns-else-at-lt-TAGS c = ap length_by (sym (get_or-eq_default rows no_row (search rules)))

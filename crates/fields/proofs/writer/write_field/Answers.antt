@@ -1,34 +1,31 @@
-use Rattle.std.proofs.Common.{◌∙◌, ap, arith, sym}
+use Rattle.std.proofs.Common.{◌≡◌, ◌∙◌, Err, arith, rules}
 use Rattle.fields.proofs.Writing.{room_enough, room_short, settled, write_checked, write_unknown}
 use Rattle.fields.specs.Rows.{length_of}
+use Rattle.fields.specs.Write.{write_field}
 use Rattle.fields.proofs.writer.write_field.Goals as goal
+use Rattle.fields.proofs.writer.write_field.Goals.{After-check_value}
+
+pub returns-then-not-is_tag : goal.returns-then-not-is_tag
+returns-then-not-is_tag c = write_unknown c.args.field c.args.out.now cc
+
+checked : (c : After-check_value) → settled c.args.field c.args.out.now c.check_value.result ≡ write_field c.args.field c.args.out.now
+checked c = write_checked c.args.field c.args.out.now _ _ (cc) c.row_of-row.ensures c.check_value.ensures
+
+pub returns-in_err-check_value : goal.returns-in_err-check_value
+returns-in_err-check_value c =
+    let why : c.from_residual.result ≡ Err c.in_err-check_value.field-0.0 = search rules in
+    rw why (rw c.in_err-check_value.was at (checked (goal.at.returns-in_err-check_value c).After-check_value))
 
 pub returns-then-out-room : goal.returns-then-out-room
 returns-then-out-room c =
-    let f = c.args.field in
-    let out = c.args.out.now in
-    room_short f out (omega arith)
-    ∙ ap (settled f out) (sym c.in-Passed.is)
-    ∙ write_checked f out c.row_of-row.result c.check_value.result (sym c.is_tag.ensures ∙ c.if-is_tag.true) c.row_of-row.ensures c.check_value.ensures
+    room_short c.args.field c.args.out.now (omega arith)
+    ∙ (rw c.in_ok-check_value.was at (checked (goal.at.returns-then-out-room c).After-check_value))
 
 pub put_field-requires : goal.put_field-requires
 unfolding length_of
 put_field-requires c = rw c.row_of-row.ensures (omega arith)
 
-pub returns-in-Passed : goal.returns-in-Passed
-returns-in-Passed c =
-    let f = c.args.field in
-    let out = c.args.out.now in
-    room_enough f out c.row_of-row.result c.value_length-bytes.result c.put_field.new.out c.row_of-row.ensures c.value_length-bytes.ensures (omega arith) c.put_field.ensures
-    ∙ ap (settled f out) (sym c.in-Passed.is)
-    ∙ write_checked f out c.row_of-row.result c.check_value.result (sym c.is_tag.ensures ∙ c.if-is_tag.true) c.row_of-row.ensures c.check_value.ensures
-
-pub returns-in-Failed : goal.returns-in-Failed
-returns-in-Failed c =
-    let f = c.args.field in
-    let out = c.args.out.now in
-    ap (settled f out) (sym c.in-Failed.is)
-    ∙ write_checked f out c.row_of-row.result c.check_value.result (sym c.is_tag.ensures ∙ c.if-is_tag.true) c.row_of-row.ensures c.check_value.ensures
-
 pub returns : goal.returns
-returns c = write_unknown c.args.field c.args.out.now (sym c.is_tag.ensures ∙ c.if-is_tag.false)
+returns c =
+    rw c.from-room.ensures (room_enough c.args.field c.args.out.now _ _ _ c.row_of-row.ensures c.value_length-bytes.ensures (omega arith) c.put_field.ensures)
+    ∙ (rw c.in_ok-check_value.was at (checked (goal.at.returns c).After-check_value))

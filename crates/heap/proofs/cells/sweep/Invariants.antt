@@ -1,11 +1,7 @@
 -- `heap::cells::sweep`: a map, in place.
-use Rattle.std.proofs.Common.{◌-◌, ◌≡◌, length}
-use Rattle.heap.proofs.Front.{map_front}
+use Rattle.std.proofs.Common.{◌≡◌, ◌++◌, drop, map, take}
 use Rattle.rules.specs.Words.{after_free}
 use Rattle.heap.proofs.cells.sweep.Given as goal
 
-abbrev pub invariant-loop-i : goal.invariant-loop-i
-invariant-loop-i l = (length l.words ≡ length l.initial.words) × (l.words ≡ map_front (after_free l.cell) l.i l.initial.words)
-
-abbrev pub decreases-loop-i : goal.decreases-loop-i
-decreases-loop-i l = length l.initial.words - l.i
+abbrev pub invariant-loop-word : goal.invariant-loop-word
+invariant-loop-word l = l.words ≡ map (after_free l.cell) (take l.word-index l.initial.words) ++ drop l.word-index l.initial.words

@@ -1,23 +1,23 @@
 -- `judge::plays::play` meets its contract.
-use Rattle.heap.specs.Boards.{board_of}
-use Rattle.judge.proofs.Answers.{through_looks}
-use Rattle.judge.proofs.Steps.{play_kind, play_on, play_stop}
-use Rattle.rules.specs.State.{state_of}
-use Rattle.std.proofs.Common.{refl}
+use Rattle.judge.proofs.Steps.{counted_on, counted_stop, uncounted}
+use Rattle.judge.specs.LentHeaps.{state_with}
+use Rattle.rules.specs.Effect.{count_field}
+use Rattle.std.proofs.Common.{rules}
 use Rattle.judge.proofs.plays.play.Goals as goal
 
-pub returns-then-goes-clause-by_rule : goal.returns-then-goes-clause-by_rule
-returns-then-goes-clause-by_rule c =
-    let a = c.args in
-    let s = state_of (board_of a.pointers.now a.variables.now) a.tally a.selectors.now a.numbers.now a.status.now in
-    let passed = through_looks a.pointers.now c.data_through.result c.value_through.result _ _ _ c.data_through.ensures c.value_through.ensures c.check_through-passed.ensures in
-    let put = c.put_number.ensures a.tally a.selectors.now a.status.now in
-    rw c.count_field.ensures
-    (play_kind a.act _ s _ c.in-Put.is (play_on a.act.guard _ s _ _ refl passed c.check_guard-answer.ensures _ c.goes.ensures _ c.if-goes.true put))
+pub returns-in_err-play_change-clause-by_rule : goal.returns-in_err-play_change-clause-by_rule
+returns-in_err-play_change-clause-by_rule c =
+    let s = state_with c.args.board.now c.args.heap.now in
+    counted_stop c.args.act s _ _ _ c.in_err-play_change.field-0.0 c.play_change.ensures.by_rule c.in_err-play_change.was (search rules)
 
-pub returns-else-goes-clause-by_rule : goal.returns-else-goes-clause-by_rule
-returns-else-goes-clause-by_rule c =
-    let a = c.args in
-    let s = state_of (board_of a.pointers.now a.variables.now) a.tally a.selectors.now a.numbers.now a.status.now in
-    let passed = through_looks a.pointers.now c.data_through.result c.value_through.result _ _ _ c.data_through.ensures c.value_through.ensures c.check_through-passed.ensures in
-    play_kind a.act _ s _ c.in-Put.is (play_stop a.act.guard _ s _ _ refl passed c.check_guard-answer.ensures _ c.goes.ensures c.if-goes.false)
+pub overflow_add-heap : goal.overflow_add-heap
+overflow_add-heap c =
+    let s = state_with c.args.board.now c.args.heap.now in
+    let kept = uncounted c.args.act s _ _ c.play_change.ensures.by_rule in
+    search (rules, kept, c.requires)
+
+pub returns-clause-by_rule : goal.returns-clause-by_rule
+unfolding count_field
+returns-clause-by_rule c =
+    let s = state_with c.args.board.now c.args.heap.now in
+    counted_on c.args.act s _ _ c.play_change.ensures.by_rule c.in_ok-play_change.was

@@ -1,30 +1,16 @@
 -- `judge::plays::play_free` meets its contract.
-use Rattle.heap.specs.Boards.{board_of}
 use Rattle.judge.proofs.Steps.{play_on, play_stop}
-use Rattle.rules.proofs.Tallies.{fields_kept}
+use Rattle.judge.specs.LentHeaps.{state_with}
 use Rattle.rules.specs.declared.Change.TheVariants.{Release}
-use Rattle.rules.specs.State.{state_of}
-use Rattle.std.proofs.Common.{[], refl, arith}
+use Rattle.std.proofs.Common.{refl, rules}
 use Rattle.judge.proofs.plays.play_free.Goals as goal
 
-pub count_field-requires : goal.count_field-requires
-count_field-requires c =
+pub returns-in_err-check_guard-clause-by_rule : goal.returns-in_err-check_guard-clause-by_rule
+returns-in_err-check_guard-clause-by_rule c =
     let a = c.args in
-    let s = state_of (board_of a.pointers.now a.variables.now) a.tally a.selectors.now [] a.status.now in
-    omega (arith, fields_kept (Release a.p) s _ (c.release-count.ensures.by_rule a.variables.now []), c.requires.0)
-
-pub returns-then-goes-clause-by_rule : goal.returns-then-goes-clause-by_rule
-returns-then-goes-clause-by_rule c =
-    let a = c.args in
-    rw c.count_field.ensures (
-    λ numbers.
-    let s = state_of (board_of a.pointers.now a.variables.now) a.tally a.selectors.now numbers a.status.now in
-    play_on a.guard (Release a.p) s _ _ refl c.race_at.ensures c.check_guard-answer.ensures _ c.goes.ensures _ c.if-goes.true (c.release-count.ensures.by_rule a.variables.now numbers)
-    )
+    play_stop a.guard (Release a.p) (state_with a.board.now a.heap.now) _ c.in_err-check_guard.field-0.0 (search rules) _ _ _ refl refl c.race_at.ensures c.check_guard.ensures c.in_err-check_guard.was
 
 pub returns-clause-by_rule : goal.returns-clause-by_rule
 returns-clause-by_rule c =
     let a = c.args in
-    λ numbers.
-    let s = state_of (board_of a.pointers.now a.variables.now) a.tally a.selectors.now numbers a.status.now in
-    play_stop a.guard (Release a.p) s _ _ refl c.race_at.ensures c.check_guard-answer.ensures _ c.goes.ensures c.if-goes.false
+    play_on a.guard (Release a.p) (state_with a.board.now a.heap.now) _ _ _ _ refl refl c.race_at.ensures c.check_guard.ensures c.in_ok-check_guard.was c.release.ensures.by_rule

@@ -1,30 +1,56 @@
 -- One more call either is the last, or brings bytes that stand after those that were there.
-use Rattle.std.proofs.Common.{ℕ, ◌+◌, ◌-◌, ◌≤◌, ◌∷◌, length, sym, subst, ap, ◌∙◌, arith}
-use borrow.Rule.Slice.PartMut.{same_len_mid}
-use Rattle.streams.proofs.Bounds.{reaches, within_part}
-use Rattle.streams.proofs.Growth.{stopped, went_on}
-use Rattle.streams.specs.Answers.{errno_in, moved_of, number_in}
+use Rattle.std.proofs.Common.{ℕ, ◌-◌, ◌≤◌, ◌∷◌, Ok, Err, not, length, refl, sym, subst, ap, ◌∙◌, arith}
+use mathlib.Core.Logic.{inl}
+use borrow.Rule.Slice.PartMut.{same_len_mid, take_put}
+use Rattle.std.proofs.KnownBytes.{Consumes-kept, Consumes-trans}
+use Rattle.streams.proofs.Bounds.{goes_on, reaches}
+use Rattle.streams.proofs.Growth.{grown, nothing_more, stopped, went_on}
 use Rattle.streams.specs.Reading.{Call}
+use Rattle.streams.specs.declared.reading.Stop.TheVariants.{Ended, Broken}
 use Rattle.streams.proofs.reading.read_into.Goals as goal
+use Rattle.streams.proofs.reading.read_into.Goals.{in-Ok, in-Err}
 
-pub returns-then-is_last-clause-reads_by : goal.returns-then-is_last-clause-reads_by
-returns-then-is_last-clause-reads_by g c =
+pub returns-in-Ok-eq0-clause-reads_by : goal.returns-in-Ok-eq0-clause-reads_by
+returns-in-Ok-eq0-clause-reads_by g c =
     let inv = c.loop.invariant in
-    let call : Call = record { got = number_in c.read-got.result; error = errno_in c.read-got.result; part = c.read-got.new.buf } in
-    let last = sym c.is_last.ensures ∙ c.if-is_last.true in
-    stopped c.loop.length (length c.loop.bytes - c.loop.length) c.loop.bytes call inv.2.0 inv.1 inv.2.1 inv.2.2 c.answer_to-answer.result c.stop_of.result c.answer_to-answer.ensures c.stop_of.ensures last
+    let call : Call = record { answer = Ok 0; part = c.read.new.buf } in
+    stopped c.loop.length (length c.loop.bytes - c.loop.length) c.loop.bytes call inv.went_on.0 inv.inside inv.went_on.1 inv.went_on.2 Ended refl (refl, inv.went_on.2)
+
+pub returns-in-Err-2-clause-reads_by : goal.returns-in-Err-2-clause-reads_by
+returns-in-Err-2-clause-reads_by g c =
+    let inv = c.loop.invariant in
+    let call : Call = record { answer = Err c.in-Err.error; part = c.read.new.buf } in
+    let failed = sym c.is_interrupted.ensures ∙ c.if-is_interrupted.false in
+    stopped c.loop.length (length c.loop.bytes - c.loop.length) c.loop.bytes call inv.went_on.0 inv.inside inv.went_on.1 inv.went_on.2 (Broken c.in-Err.error) refl (inl (failed, (refl, inv.went_on.2)))
 
 pub loop-preserved : goal.loop-preserved
 loop-preserved g c =
     let inv = c.loop.invariant in
-    let call : Call = record { got = number_in c.read-got.result; error = errno_in c.read-got.result; part = c.read-got.new.buf } in
-    let is = c.moved-length.ensures ∙ ap moved_of c.answer_to-answer.ensures in
-    let few = subst (λ (n : ℕ). n ≤ length c.read-got.new.buf) (sym is) (within_part c.read-got.new.buf c.read-got.result c.read-got.ensures.bound) in
-    let more = sym c.is_last.ensures ∙ c.if-is_last.false in
-    let grew = went_on c.loop.length (length c.loop.bytes - c.loop.length) c.loop.bytes call inv.2.0 inv.1 inv.2.1 inv.2.2 c.answer_to-answer.result c.moved-length.result c.answer_to-answer.ensures c.moved-length.ensures more few in
     let part = length c.loop.bytes - c.loop.length in
-    let lent = c.read-got.auto.buf in
-    let size = same_len_mid c.loop.length part c.loop.bytes c.read-got.new.buf lent in
-    let fits = subst (λ (n : ℕ). c.moved-length.result ≤ n) lent few in
-    let end = subst (λ (n : ℕ). c.loop.length + c.moved-length.result ≤ n) (sym size) (reaches c.loop.length c.moved-length.result c.loop.bytes inv.1 fits) in
-    (omega arith, end, (call ∷ inv.2.0, grew.0, grew.1, omega (arith, inv.2.3)))
+    let lent = c.read.auto.buf in
+    let size = same_len_mid c.loop.length part c.loop.bytes c.read.new.buf lent in
+    let (made, log, on, many) = inv.went_on in
+    elim c.match-read.branch [
+      | in-Ok w ↦
+          let n = w.in-Ok.count in
+          let few = w.in-Ok.ensures.bound.0 in
+          let call : Call = record { answer = Ok n; part = c.read.new.buf } in
+          let brings = went_on c.loop.length part c.loop.bytes call made inv.inside log on n refl few in
+          let fits = reaches c.loop.length n c.loop.bytes inv.inside (subst (λ (k : ℕ). n ≤ k) lent few) in
+          let loses = Consumes-trans _ _ _ _ _ inv.lost w.in-Ok.ensures.bytes.0 in
+          rw w.length-is record {
+            counted = omega arith;
+            inside = omega (arith, size, fits);
+            went_on = (call ∷ made, brings, (goes_on n w.in-Ok.count-test.1, on), omega (arith, many));
+            lost = rw (grown c.loop.length part n c.loop.bytes c.read.new.buf inv.inside few) loses;
+          }
+      | in-Err w ↦
+          let call : Call = record { answer = Err w.in-Err.error; part = c.read.new.buf } in
+          let signal = ap not (sym w.is_interrupted.ensures ∙ w.if-is_interrupted.true) in
+          rw w.length-is record {
+            counted = omega arith;
+            inside = omega (arith, size, inv.inside);
+            went_on = (call ∷ made, nothing_more c.loop.length part c.loop.bytes call made inv.inside log on refl, (signal, on), omega (arith, many));
+            lost = rw (take_put c.loop.length part c.loop.bytes c.read.new.buf inv.inside) (Consumes-kept _ _ _ _ inv.lost w.in-Err.ensures.bytes);
+          }
+    ]
