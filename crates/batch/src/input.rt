@@ -28,6 +28,7 @@ fn fill<R: Read>(input: &mut R, bytes: &mut [u8]) -> Result<bool> {
 fn skip<R: Read>(input: &mut R, count: usize) -> Result<bool> {
     let mut chunk = [0u8; CHUNK];
     let mut left = count;
+    // stays a while: a range over whole chunks would need the last one apart
     while 0 < left {
         let part = left.min(CHUNK);
         if !fill(input, &mut chunk[..part])? {

@@ -48,6 +48,7 @@ fn drain<R: Read>(input: &mut R) {
 }
 
 // Reads a log and has it answered. A log that fills the room is longer than a log may be.
+// The bound stays a clause: a type for it would be made here and in batch, and taken apart again in each program.
 pub fn answer_log<R: Read, F: FnOnce(&[u8]) -> Result<(), Failure>>(
     input: &mut R,
     answer: F,

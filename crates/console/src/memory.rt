@@ -14,6 +14,7 @@ pub struct Memory {
     pub tally: Tally,
 }
 
+// Both methods name the five buffers: a function that returns them borrowed gets no proof.
 impl Memory {
     pub fn fresh() -> Self
         ensures { result ≡ fresh_memory }

@@ -4,6 +4,7 @@ ghost use Rattle.console.specs.Memories.{poisoned_memory};
 
 use rules::{Board, Heap};
 
+// Five arrays, as five buffers are lent: no heap, fixed memory.
 #[derive(Clone, Copy)]
 pub struct Poisoned {
     pub pointers: [u16; Poisoned::POINTERS],

@@ -30,10 +30,12 @@ fn number_in(text: &[u8]) -> Option<u32> {
 }
 
 // The number that the first argument is; one that is missing or too long is no field's.
-fn number_asked<R: Env>(rt: &R) -> u32 {
+fn number_asked<R: Env>(rt: &R) -> u32
+    ensures { result ≤ 4096 }
+{
     let mut text = [0u8; LETTERS];
     match rt.arg(1, &mut text) {
-        Ok(count) => number_in(&text[..count]).unwrap_or(NO_FIELD),
+        Ok(count) => number_in(&text[..count]).unwrap_or(NO_FIELD).min(NO_FIELD),
         Err(_) => NO_FIELD,
     }
 }

@@ -12,30 +12,43 @@ enum Turn {
     Fails(i32),
 }
 
+// What the calls do, one after the other.
+#[derive(Drop)]
+struct Turns {
+    turns: [Turn; 4],
+    made: usize,
+}
+
+impl Turns {
+    fn new(turns: [Turn; 4]) -> Self {
+        Turns { turns, made: 0 }
+    }
+
+    fn take(&mut self) -> Option<Turn> {
+        let turn = self.turns.get(self.made).copied()?;
+        self.made = self.made.saturating_add(1);
+        Some(turn)
+    }
+}
+
 // A reader whose calls go as its turns say, and which has ended after them; each byte tells which call brought it.
 #[derive(Drop)]
-struct Reader {
-    turns: [Turn; 4],
-    at: usize,
-}
+struct Reader(Turns);
 
 impl Read for Reader {
     fn read(&mut self, buf: &mut [u8]) -> io::Result<usize> {
-        if self.at >= 4 {
-            return Ok(0);
-        }
-        let turn = self.turns[self.at];
-        self.at += 1;
-        match turn {
-            Turn::Moves(most) => {
+        match self.0.take() {
+            Some(Turn::Moves(most)) => {
                 let count = most.min(buf.len());
+                let call = (self.0.made & 0xff) as u8;
                 for byte in buf[..count].iter_mut() {
-                    *byte = self.at as u8;
+                    *byte = call;
                 }
                 Ok(count)
             }
-            Turn::IsInterrupted => Err(io::Error::from(ErrorKind::Interrupted)),
-            Turn::Fails(code) => Err(io::Error::from_raw_os_error(code)),
+            Some(Turn::IsInterrupted) => Err(io::Error::from(ErrorKind::Interrupted)),
+            Some(Turn::Fails(code)) => Err(io::Error::from_raw_os_error(code)),
+            None => Ok(0),
         }
     }
 }
@@ -43,26 +56,30 @@ impl Read for Reader {
 // A writer whose calls go as its turns say, and which takes nothing after them.
 #[derive(Drop)]
 struct Writer {
-    turns: [Turn; 4],
-    at: usize,
+    turns: Turns,
     taken: usize,
+}
+
+impl Writer {
+    fn new(turns: [Turn; 4]) -> Self {
+        Writer {
+            turns: Turns::new(turns),
+            taken: 0,
+        }
+    }
 }
 
 impl Write for Writer {
     fn write(&mut self, buf: &[u8]) -> io::Result<usize> {
-        if self.at >= 4 {
-            return Ok(0);
-        }
-        let turn = self.turns[self.at];
-        self.at += 1;
-        match turn {
-            Turn::Moves(most) => {
+        match self.turns.take() {
+            Some(Turn::Moves(most)) => {
                 let count = most.min(buf.len());
                 self.taken = self.taken.saturating_add(count);
                 Ok(count)
             }
-            Turn::IsInterrupted => Err(io::Error::from_raw_os_error(4)),
-            Turn::Fails(code) => Err(io::Error::from_raw_os_error(code)),
+            Some(Turn::IsInterrupted) => Err(io::Error::from_raw_os_error(4)),
+            Some(Turn::Fails(code)) => Err(io::Error::from_raw_os_error(code)),
+            None => Ok(0),
         }
     }
 
@@ -72,7 +89,7 @@ impl Write for Writer {
 }
 
 fn read_by(turns: [Turn; 4], bytes: &mut [u8]) -> Filled {
-    read_into(&mut Reader { turns, at: 0 }, bytes)
+    read_into(&mut Reader(Turns::new(turns)), bytes)
 }
 
 // The system's number of the error, or 0.
@@ -136,11 +153,7 @@ fn writes_whole(rt: HostRuntime) {
         Turn::Moves(1),
         Turn::Moves(9),
     ];
-    let mut writer = Writer {
-        turns,
-        at: 0,
-        taken: 0,
-    };
+    let mut writer = Writer::new(turns);
     assert!(rt; write_whole(&mut writer, b"abcdef").is_ok());
     assert_eq!(rt; writer.taken, 6);
 }
@@ -153,11 +166,7 @@ fn tells_a_failed_write(rt: HostRuntime) {
         Turn::Moves(4),
         Turn::Moves(4),
     ];
-    let mut writer = Writer {
-        turns,
-        at: 0,
-        taken: 0,
-    };
+    let mut writer = Writer::new(turns);
     let put = write_whole(&mut writer, b"abcdef");
     assert_eq!(rt; code_in(put.err()), 28);
     assert_eq!(rt; writer.taken, 2);
@@ -167,11 +176,7 @@ fn tells_a_failed_write(rt: HostRuntime) {
         Turn::Moves(1),
         Turn::Moves(1),
     ];
-    let mut writer = Writer {
-        turns,
-        at: 0,
-        taken: 0,
-    };
+    let mut writer = Writer::new(turns);
     let put = write_whole(&mut writer, b"abcdef");
     assert!(rt; matches!(put, Err(error) if error.kind() == ErrorKind::WriteZero));
     assert_eq!(rt; writer.taken, 4);
@@ -185,15 +190,11 @@ fn writes_a_long_line_in_parts(rt: HostRuntime) -> io::Result<()> {
         Turn::IsInterrupted,
         Turn::Moves(5_000),
     ];
-    let mut line = Line::new(Writer {
-        turns,
-        at: 0,
-        taken: 0,
-    });
+    let mut line = Line::new(Writer::new(turns));
     line.write_all(&[b'x'; 9_000])?;
     let writer = line.end()?;
     assert_eq!(rt; writer.taken, 9_000);
-    assert_eq!(rt; writer.at, 4);
+    assert_eq!(rt; writer.turns.made, 4);
     Ok(())
 }
 
@@ -205,11 +206,7 @@ fn tells_a_line_that_is_cut_short(rt: HostRuntime) {
         Turn::Fails(28),
         Turn::Moves(5_000),
     ];
-    let mut line = Line::new(Writer {
-        turns,
-        at: 0,
-        taken: 0,
-    });
+    let mut line = Line::new(Writer::new(turns));
     let put = line.write_all(&[b'x'; 9_000]);
     assert_eq!(rt; code_in(put.err()), 28);
 }
