@@ -25,6 +25,7 @@ PLACES = [
     ("4 returns of true or false", r"return (true|false);"),
     ("4 arms that turn a variant to a number", r"::[A-Za-z]+ => [0-9]+,"),
     ("4 numbers put together or taken apart by hand", r"(256|65_536) \*|% 256|/ 256"),
+    ("4 numbers widened by as", r" as (u16|u32|u64|usize)\b"),
     ("4 numbers printed by hand", r"io::(decimal|hex)\(|fn put_[a-z_]*\("),
     ("5 lines of a requires", r"^ *requires "),
     ("5 the status bytes among the parameters", r"^ *status: &"),

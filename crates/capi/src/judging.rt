@@ -7,6 +7,7 @@ ghost use Rattle.capi.specs.Replaying.{replay_call, replay_left};
 use super::telling::{NO_ROOM, has_room, tally_in, tell};
 use judge::{Buffers, judge_log, replay_log};
 
+#[tactic(auto, using(crate::proofs::Calls::judge_no_room))]
 #[unsafe(no_mangle)]
 pub extern "C" fn thawhazel_judge(
     log: &[u8],
@@ -34,6 +35,7 @@ pub extern "C" fn thawhazel_judge(
     tell(judged, tally, answer)
 }
 
+#[tactic(auto, using(crate::proofs::Calls::replay_no_room))]
 #[unsafe(no_mangle)]
 pub extern "C" fn thawhazel_replay(
     log: &[u8],

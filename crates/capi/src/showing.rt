@@ -11,6 +11,7 @@ use show::find_field;
 // Stay two numbers of a list: C lends it so.
 const PART: usize = 2;
 
+#[tactic(auto, using(crate::proofs::OneShowing::show_short, show::proofs::Seeking::within))]
 #[unsafe(no_mangle)]
 pub extern "C" fn thawhazel_show(log: &[u8], number: u32, part: &mut [u32]) -> u32
     ensures { show_left result part.new ≡ show_call log.now number part.old }

@@ -19,7 +19,7 @@ pub const DONE: u32 = 0;
 
 pub const TOO_SHORT: u32 = Refusal::OutputTooShort as u32;
 
-// A number that is too large for its type counts as the largest of the type.
+// A number that is too large for its type counts as the largest of the type. Stay two: one call of std for each of two types.
 fn byte_of(n: u32) -> u8
     ensures { result ≡ at_most largest_byte n }
 {
@@ -47,6 +47,7 @@ fn field_in(field: &[u32]) -> Field
     }
 }
 
+#[tactic(auto, using(crate::proofs::OneField::read_short))]
 #[unsafe(no_mangle)]
 pub extern "C" fn thawhazel_read_field(part: &[u8], place: u32, field: &mut [u32]) -> u32
     ensures { read_left result field.new ≡ read_call part.now place field.old }
@@ -76,6 +77,7 @@ pub extern "C" fn thawhazel_read_field(part: &[u8], place: u32, field: &mut [u32
     }
 }
 
+#[tactic(auto, using(crate::proofs::OneField::write_no_field, crate::proofs::OneField::write_no_answer))]
 #[unsafe(no_mangle)]
 pub extern "C" fn thawhazel_write_field(field: &[u32], out: &mut [u8], answer: &mut [u32]) -> u32
     ensures { write_left result out.new answer.new ≡ write_call field.now out.old answer.old }

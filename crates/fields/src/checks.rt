@@ -7,6 +7,7 @@ use super::rows::{Row, Slot};
 use super::{Field, RecordedCell, Refusal};
 
 // Past the shared variables each thread owns as many as the next: which one owns a variable is a quotient.
+#[tactic(auto, unfolding(crate::specs::Checks::may_name))]
 fn may_name(thread: u8, x: u8) -> bool
     ensures { result ≡ may_name thread x }
 {

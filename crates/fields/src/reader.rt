@@ -34,6 +34,7 @@ fn field_of(tag: u8, row: Row, value: &[u8]) -> Field
 }
 
 // The field at the front of a part, wherever the part stands in its log.
+#[tactic(auto, using(crate::proofs::Framing::whole_value), unfolding(crate::specs::Rows::length_of))]
 fn field_at_front(part: &[u8]) -> Result<Field, Refusal>
     ensures { result ≡ read_field part.now }
 {

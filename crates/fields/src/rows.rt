@@ -5,6 +5,7 @@ ghost use Rattle.fields.specs.Rows.{is_present, is_tag, length_of, row_of, width
 use Slot::{Absent, Data, Pointer, Selector};
 
 // What a one-byte number of a row names: nothing, a pointer variable, a data variable, a selector.
+// Stays four, and no Option of three: `rows` (specs/Rows.antt) has them so, and each line of the table reads as the document's.
 #[derive(Clone, Copy)]
 pub enum Slot {
     Absent,
@@ -65,6 +66,7 @@ pub fn row_of(tag: u8) -> Row
 }
 
 // How many bytes follow the header of a field with this tag.
+#[tactic(auto, unfolding(crate::specs::Rows::length_of, crate::specs::Rows::row_of, crate::specs::Rows::widths_of))]
 pub fn value_length(tag: u8) -> u8
     ensures { result ≡ length_of tag }
 {

@@ -46,6 +46,7 @@ fn put_field(row: Row, field: Field, bytes: u8, out: &mut [u8])
 }
 
 // The field's header and value at the front of the output, whose rest keeps its bytes. A refusal leaves it untouched.
+#[tactic(auto, using(crate::proofs::Writing::write_unknown), unfolding(crate::specs::Rows::length_of))]
 pub fn write_field(field: Field, out: &mut [u8]) -> Result<usize, Refusal>
     ensures { writing result out.new ≡ write_field field out.old }
 {

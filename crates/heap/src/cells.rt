@@ -26,11 +26,12 @@ fn invalidate_at(words: &mut [u16], i: usize)
     set_item(words, i, word);
 }
 
+// Stays beside unset_own: one function over a closure would need a clause of what the closure computes, longer than both.
 // Both selectors of a cell lose validity, unset or not.
 pub fn invalidate_own(selectors: &mut [u16], cell: u16)
     ensures { selectors.new ≡ change_own invalidated cell selectors.old }
 {
-    let at = 2 * (cell as usize);
+    let at = 2 * usize::from(cell);
     invalidate_at(selectors, at);
     invalidate_at(selectors, at + 1);
 }
@@ -39,7 +40,7 @@ pub fn invalidate_own(selectors: &mut [u16], cell: u16)
 pub fn unset_own(selectors: &mut [u16], cell: u16)
     ensures { selectors.new ≡ change_own (λ w. unset) cell selectors.old }
 {
-    let at = 2 * (cell as usize);
+    let at = 2 * usize::from(cell);
     set_item(selectors, at, Heap::UNSET);
     set_item(selectors, at + 1, Heap::UNSET);
 }

@@ -45,8 +45,8 @@ pub fn set_item<T: Copy>(list: &mut [T], i: usize, item: T)
     }
 }
 
-// An array over the front of a list that has room for it. What lies past it stays. It is taken by value: by reference the run that
-// made it would keep it in memory.
+// An array over the front of a list that has room for it. What lies past it stays. It is taken by value: a reference to
+// the board's arrays would make the run keep the board in memory through its loop.
 pub fn copy_front<T: Copy, const N: usize>(list: &mut [T], from: [T; N])
     ensures { list.new ≡ with_front N from list.old }
 {

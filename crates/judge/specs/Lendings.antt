@@ -26,7 +26,7 @@ pub record SameSizes (before after : Lent) : Type 0 where
   pub numbers : length after.numbers ≡ length before.numbers
   pub status : length after.status ≡ length before.status
 
--- what is borrowed afterwards is what was borrowed before
+-- what is borrowed afterwards is what was borrowed before: said wherever the struct is taken by `&mut`, as for LentHeap
 pub record SameBuffers (before after : Buffers) : Type 0 where
   pub pointers : after.pointers.ghost_name ≡ before.pointers.ghost_name
   pub selectors : after.selectors.ghost_name ≡ before.selectors.ghost_name

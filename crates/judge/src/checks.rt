@@ -22,7 +22,7 @@ pub fn race_at(pointers: &[u16], look: Option<u8>) -> Answer
     ensures { result ≡ races_in pointers.now (option_to_list look) }
 {
     match look {
-        Some(p) if !is_valid(item_at(pointers, p as usize)) => Err(Stop::Race(p)),
+        Some(p) if !is_valid(item_at(pointers, usize::from(p))) => Err(Stop::Race(p)),
         _ => Ok(()),
     }
 }
@@ -33,7 +33,7 @@ fn unset_at(pointers: &[u16], look: Option<u8>) -> Answer
     ensures { result ≡ unset_in pointers.now (option_to_list look) }
 {
     match look {
-        Some(p) if is_unset(item_at(pointers, p as usize)) => {
+        Some(p) if is_unset(item_at(pointers, usize::from(p))) => {
             Err(Stop::Refuse(Refusal::UnsetPointer))
         }
         _ => Ok(()),
@@ -54,7 +54,7 @@ pub fn check_through(pointers: &[u16], to: Option<u8>, from: Option<u8>) -> Answ
 pub fn check_vacant(heap: &LentHeap<'_>, cell: RecordedCell) -> Answer
     ensures { result ≡ vacant_in heap.now.status.now (cell ∷ []) }
 {
-    if heap.status_at(cell.0 as usize) == Heap::LIVE {
+    if heap.status_at(usize::from(cell.0)) == Heap::LIVE {
         return Err(Stop::Refuse(Refusal::LiveCell));
     }
     Ok(())
@@ -95,14 +95,14 @@ pub fn check_guard(guard: Guard, board: &Board, change: Answer) -> Answer
             race_at(&board.pointers, Some(p))?;
             race_at(&board.pointers, Some(q))?;
             change?;
-            let v = item_at(&board.pointers, p as usize);
-            let w = item_at(&board.pointers, q as usize);
+            let v = item_at(&board.pointers, usize::from(p));
+            let w = item_at(&board.pointers, usize::from(q));
             check_holds(same_as_wanted(wanted, v, w))
         }
         Guard::Equal(wanted, x, y) => {
             change?;
-            let m = item_at(&board.variables, x as usize);
-            let n = item_at(&board.variables, y as usize);
+            let m = item_at(&board.variables, usize::from(x));
+            let n = item_at(&board.variables, usize::from(y));
             check_holds(as_wanted(wanted, m == n))
         }
     }

@@ -7,6 +7,7 @@ ghost use Rattle.rules.specs.Replay.{copy_field, starting_data, to_replay_log};
 use super::acts::act_of;
 use super::lent_heap::LentHeap;
 use fields::{Field, RecordedCell, write_field};
+use heap::item_at;
 use rules::{Board, Change, Heap, ReplayCell};
 
 // A replay is a log of its own, and its fields name cells of the type that the fields of every log do. Here alone the number of
@@ -22,11 +23,11 @@ fn to_replay_log(cell: ReplayCell) -> RecordedCell
 fn starting_data(cell: RecordedCell, number: u32, heap: &LentHeap<'_>) -> u32
     ensures { (board : Board) → result ≡ starting_data (state_with board heap.now) cell number }
 {
-    let at = cell.0 as usize;
+    let at = usize::from(cell.0);
     if heap.status_at(at) == Heap::NEVER_USED {
         number
     } else {
-        heap.number_at(at)
+        item_at(heap.numbers, at)
     }
 }
 

@@ -16,10 +16,10 @@ fn place_of(pointers: &[u16], e: PExp) -> Place
     ensures { result ≡ place_in pointers.now e }
 {
     match e {
-        PExp::PointerVariable(p) => Place::PointerWord(p as usize),
+        PExp::PointerVariable(p) => Place::PointerWord(usize::from(p)),
         PExp::SelectorOf(p, selector) => {
-            let cell = cell_of(item_at(pointers, p as usize));
-            Place::SelectorWord(2 * (cell as usize) + (selector as usize))
+            let cell = cell_of(item_at(pointers, usize::from(p)));
+            Place::SelectorWord(2 * usize::from(cell) + usize::from(selector))
         }
     }
 }
@@ -29,7 +29,7 @@ fn word_in(board: &Board, heap: &LentHeap<'_>, place: Place) -> u16
 {
     match place {
         Place::PointerWord(i) => item_at(&board.pointers, i),
-        Place::SelectorWord(i) => heap.selector_at(i),
+        Place::SelectorWord(i) => item_at(heap.selectors, i),
     }
 }
 
@@ -48,10 +48,10 @@ fn data_place_of(pointers: &[u16], e: DExp) -> DataPlace
     ensures { result ≡ data_place_in pointers.now e }
 {
     match e {
-        DExp::DataVariable(x) => DataPlace::VariableNumber(x as usize),
+        DExp::DataVariable(x) => DataPlace::VariableNumber(usize::from(x)),
         DExp::DataOf(p) => {
-            let cell = cell_of(item_at(pointers, p as usize));
-            DataPlace::CellNumber(cell as usize)
+            let cell = cell_of(item_at(pointers, usize::from(p)));
+            DataPlace::CellNumber(usize::from(cell))
         }
     }
 }
@@ -61,7 +61,7 @@ fn datum_in(board: &Board, heap: &LentHeap<'_>, place: DataPlace) -> u32
 {
     match place {
         DataPlace::VariableNumber(i) => item_at(&board.variables, i),
-        DataPlace::CellNumber(i) => heap.number_at(i),
+        DataPlace::CellNumber(i) => item_at(heap.numbers, i),
     }
 }
 
@@ -69,7 +69,7 @@ fn datum_in(board: &Board, heap: &LentHeap<'_>, place: DataPlace) -> u32
 fn sum_of(variables: &[u32], y: u8, z: u8) -> u32
     ensures { result ≡ (number_at variables.now y + number_at variables.now z) % 4294967296 }
 {
-    item_at(variables, y as usize).wrapping_add(item_at(variables, z as usize))
+    item_at(variables, usize::from(y)).wrapping_add(item_at(variables, usize::from(z)))
 }
 
 fn value_in(board: &Board, heap: &LentHeap<'_>, value: Value) -> u32
@@ -100,7 +100,7 @@ fn renew(selectors: &mut [u16], numbers: &mut [u32], was: u8, cell: u16, number:
 {
     if was == Heap::NEVER_USED {
         unset_own(selectors, cell);
-        set_item(numbers, cell as usize, number);
+        set_item(numbers, usize::from(cell), number);
     }
 }
 
@@ -110,12 +110,12 @@ pub fn give_cell(p: u8, cell: u16, number: u32, board: &mut Board, heap: &mut Le
     ensures by_rule { state_with board.new heap.new ≡ give p cell number (state_with board.old heap.old) }
     ensures same_lists { SameLists heap.old heap.new }
 {
-    let at = cell as usize;
+    let at = usize::from(cell);
     let was = heap.status_at(at);
     renew(heap.selectors, heap.numbers, was, cell, number);
     heap.change_status(at, Heap::LIVE);
     heap.tally.mallocs += 1;
-    set_item(&mut board.pointers, p as usize, cell);
+    set_item(&mut board.pointers, usize::from(p), cell);
 }
 
 #[tactic(auto, unfolding(rules::specs::Effect::free))]
@@ -126,7 +126,7 @@ fn free_cell(cell: u16, board: &mut Board, heap: &mut LentHeap<'_>)
     sweep(&mut board.pointers, cell);
     sweep(heap.selectors, cell);
     invalidate_own(heap.selectors, cell);
-    heap.change_status(cell as usize, Heap::FREED);
+    heap.change_status(usize::from(cell), Heap::FREED);
 }
 
 // The free of an unset pointer changes nothing.
@@ -134,7 +134,7 @@ pub fn release(p: u8, board: &mut Board, heap: &mut LentHeap<'_>)
     ensures by_rule { state_with board.new heap.new ≡ apply (Change.Release p) (state_with board.old heap.old) }
     ensures same_lists { SameLists heap.old heap.new }
 {
-    let word = item_at(&board.pointers, p as usize);
+    let word = item_at(&board.pointers, usize::from(p));
     if !is_unset(word) {
         free_cell(cell_of(word), board, heap);
     }

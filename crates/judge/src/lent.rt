@@ -77,6 +77,7 @@ pub fn run_lent(log: ShortLog<'_>, out: &mut [u8], buffers: &mut Buffers<'_>) ->
     }
 }
 
+#[tactic(auto, using(crate::proofs::Lending::judged_too_long, crate::proofs::Lending::judged_too_short))]
 pub fn judge_log(log: &[u8], buffers: &mut Buffers<'_>, tally: Tally) -> Judged
     ensures judges { Judges log.now (lent_in buffers.old tally) result.verdict (lent_in buffers.new result.tally) }
     ensures same_buffers { SameBuffers buffers.old buffers.new }

@@ -2,8 +2,7 @@
 ghost use Rattle.std.specs.Prelude.{◌≡◌, ◌≤◌, length, slice_index_or, slice_set};
 ghost use Rattle.fields.specs.Limits.{cells};
 ghost use Rattle.rules.specs.Run.{live_count};
-ghost use Rattle.rules.specs.State.{never_used, number_at};
-ghost use Rattle.rules.specs.Words.{word_at};
+ghost use Rattle.rules.specs.State.{never_used};
 
 use heap::{change_status, item_at};
 use rules::Tally;
@@ -22,18 +21,6 @@ pub struct LentHeap<'a> {
 impl LentHeap<'_> {
     ghost use Rattle.judge.specs.LentHeaps.{SameLists};
 
-    pub fn selector_at(&self, i: usize) -> u16
-        ensures { result ≡ word_at self.now.selectors.now i }
-    {
-        item_at(self.selectors, i)
-    }
-
-    pub fn number_at(&self, i: usize) -> u32
-        ensures { result ≡ number_at self.now.numbers.now i }
-    {
-        item_at(self.numbers, i)
-    }
-
     pub fn status_at(&self, i: usize) -> u8
         ensures { result ≡ slice_index_or self.now.status.now i never_used }
     {
@@ -41,6 +28,7 @@ impl LentHeap<'_> {
     }
 
     // A cell's status changed, and the number of live cells brought along.
+    #[tactic(auto, using(heap::proofs::Counting::live_kept))]
     pub fn change_status(&mut self, cell: usize, new: u8)
         ensures status_after { self.new.status.now ≡ slice_set self.old.status.now cell new }
         ensures others_after { (self.new.selectors.now ≡ self.old.selectors.now) × (self.new.numbers.now ≡ self.old.numbers.now) }

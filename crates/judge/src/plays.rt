@@ -11,7 +11,9 @@ use super::looks::{data_through, pointer_through, value_through};
 use fields::RecordedCell;
 use rules::{Act, Answer, Board, Change, DExp, Guard, PExp, Value};
 
+// Board and heap stay two parameters here and below: document 01 names the form of the board, by value in and out of the step.
 // 11 comes before a race of the assertion.
+#[tactic(auto, using(crate::proofs::Steps::play_full, crate::proofs::Steps::play_on))]
 fn play_malloc(
     guard: Guard,
     p: u8,
@@ -29,6 +31,7 @@ fn play_malloc(
     Ok(())
 }
 
+#[tactic(auto, using(crate::proofs::Steps::play_on))]
 fn play_free(guard: Guard, p: u8, board: &mut Board, heap: &mut LentHeap<'_>) -> Answer
     ensures by_rule { stepped result board.new heap.new ≡ change_of (record { guard = guard; change = Change.Release p }) (state_with board.old heap.old) }
     ensures same_lists { SameLists heap.old heap.new }
@@ -38,6 +41,7 @@ fn play_free(guard: Guard, p: u8, board: &mut Board, heap: &mut LentHeap<'_>) ->
     Ok(())
 }
 
+#[tactic(auto, using(crate::proofs::Steps::play_on))]
 fn play_move(
     guard: Guard,
     to: PExp,
@@ -54,6 +58,7 @@ fn play_move(
     Ok(())
 }
 
+#[tactic(auto, using(crate::proofs::Steps::play_on))]
 fn play_put(
     guard: Guard,
     to: DExp,
@@ -71,6 +76,7 @@ fn play_put(
 }
 
 // An assertion reads the board, and changes nothing.
+#[tactic(auto, using(crate::proofs::Steps::play_stay))]
 fn play_change(act: Act, board: &mut Board, heap: &mut LentHeap<'_>) -> Answer
     ensures by_rule { stepped result board.new heap.new ≡ change_of act (state_with board.old heap.old) }
     ensures same_lists { SameLists heap.old heap.new }

@@ -25,6 +25,7 @@ fn replay_lent(log: ShortLog<'_>, out: &mut [u8], buffers: &mut Buffers<'_>) -> 
     }
 }
 
+#[tactic(auto, using(crate::proofs::Replaying::replayed_too_long, crate::proofs::Replaying::replayed_too_short, crate::proofs::Replaying::replayed_no_room))]
 pub fn replay_log(log: &[u8], out: &mut [u8], buffers: &mut Buffers<'_>, tally: Tally) -> Judged
     ensures replays { Replays log.now out.old (lent_in buffers.old tally) result.verdict out.new (lent_in buffers.new result.tally) }
     ensures same_buffers { SameBuffers buffers.old buffers.new }

@@ -62,7 +62,7 @@ pub fn run(log: ShortLog<'_>, out: &mut [u8], heap: &mut LentHeap<'_>) -> Ran
                 let stepped = step(field, board, heap);
                 board = stepped.board;
                 match stepped.answer {
-                    Ok(()) => at += Field::HEADER + (value_length(field.tag) as usize),
+                    Ok(()) => at += Field::HEADER + usize::from(value_length(field.tag)),
                     Err(stop) => {
                         let verdict = told(stop, fields, field.thread, offset);
                         return Ran { verdict, board };

@@ -179,7 +179,7 @@ pub enum Verdict {
 }
 
 // A verdict as it is printed: a word and its numbers, of which the first so many count; the rest of each is 0.
-// Stays arrays with their counts: no heap, and the C interface hands the numbers on.
+// Stays arrays with their counts, beside Display: no heap, the C interface hands the numbers on, and README names `printed`.
 #[derive(Clone, Copy)]
 pub struct Printed {
     pub word: [u8; Printed::LETTERS],
@@ -208,19 +208,19 @@ impl Verdict {
             Verdict::Raced(field, thread, variable, offset) => Printed {
                 word: *b"race\0\0\0\0",
                 letters: 4,
-                numbers: [field, thread as u32, variable as u32, offset],
+                numbers: [field, u32::from(thread), u32::from(variable), offset],
                 count: 4,
             },
             Verdict::Refused(why, field, offset) => Printed {
                 word: *b"refused\0",
                 letters: 7,
-                numbers: [why.number() as u32, field, offset, 0],
+                numbers: [u32::from(why.number()), field, offset, 0],
                 count: 3,
             },
             Verdict::Declined(why) => Printed {
                 word: *b"refused\0",
                 letters: 7,
-                numbers: [why.number() as u32, 0, 0, 0],
+                numbers: [u32::from(why.number()), 0, 0, 0],
                 count: 2,
             },
         }
@@ -253,6 +253,7 @@ impl fmt::Display for Verdict {
 }
 
 // Which of two logs a field is shown of.
+// Stays a choice beside both logs: order 3 asks for one call that takes them so (docs/02-orders.md).
 #[derive(Clone, Copy)]
 pub enum Choice {
     Recording,

@@ -37,6 +37,7 @@ pub fn find_field<'a>(recorded: &'a [u8], replay: &'a [u8], choice: Choice, numb
 }
 
 // The field's own bytes, a part of the chosen log; an empty part where `find_field` refuses.
+#[tactic(auto, using(crate::proofs::Seeking::within))]
 pub fn show_field<'a>(recorded: &'a [u8], replay: &'a [u8], choice: Choice, number: u32) -> &'a [u8]
     ensures { result.now ≡ part_in (chosen choice recorded.now replay.now) number }
 {

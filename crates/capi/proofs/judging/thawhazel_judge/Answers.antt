@@ -1,13 +1,8 @@
 -- What each end of the call leaves is what the definition says, by the laws of Calls.
 use Rattle.std.proofs.Common.{◌≡◌, rules, true}
-use Rattle.capi.proofs.Calls.{judge_no_room, judge_told}
+use Rattle.capi.proofs.Calls.{judge_told}
 use Rattle.capi.specs.Judging.{has_room, judge_call, left}
 use Rattle.capi.proofs.judging.thawhazel_judge.Goals as goal
-
-pub returns-then-not-has_room : goal.returns-then-not-has_room
-returns-then-not-has_room c =
-    let a = c.args in
-    judge_no_room a.log.now a.pointers.now a.selectors.now a.variables.now a.numbers.now a.status.now a.tally.now a.answer.now cc
 
 pub returns : goal.returns
 returns c =

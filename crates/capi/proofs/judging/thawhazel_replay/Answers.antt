@@ -1,14 +1,9 @@
 -- What each end of the call leaves is what the definition says, by the laws of Calls.
 use Rattle.std.proofs.Common.{◌≡◌, rules, true}
-use Rattle.capi.proofs.Calls.{replay_no_room, replay-told}
+use Rattle.capi.proofs.Calls.{replay-told}
 use Rattle.capi.specs.Judging.{has_room, left}
 use Rattle.capi.specs.Replaying.{replay_call, replay_left}
 use Rattle.capi.proofs.judging.thawhazel_replay.Goals as goal
-
-pub returns-then-not-has_room : goal.returns-then-not-has_room
-returns-then-not-has_room c =
-    let a = c.args in
-    replay_no_room a.log.now a.out.now a.pointers.now a.selectors.now a.variables.now a.numbers.now a.status.now a.tally.now a.answer.now cc
 
 pub returns : goal.returns
 returns c =

@@ -1,10 +1,7 @@
 -- What each end of the call leaves is what the definition says, by the laws of OneField.
 use Rattle.std.proofs.Common.{Err, Ok}
-use Rattle.capi.proofs.OneField.{read_short, read_told_lem}
+use Rattle.capi.proofs.OneField.{read_told_lem}
 use Rattle.capi.proofs.single.thawhazel_read_field.Goals as goal
-
-pub returns-then-field-lt-READ : goal.returns-then-field-lt-READ
-returns-then-field-lt-READ c = read_short c.args.part.now c.args.place c.args.field.now c.if-field-lt-READ.true
 
 pub returns-in-Ok : goal.returns-in-Ok
 returns-in-Ok c =

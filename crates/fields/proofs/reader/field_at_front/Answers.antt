@@ -1,8 +1,7 @@
 use Rattle.std.proofs.Common.{◌≡◌, ◌∙◌, Err, Ok, ap, rules, sym}
 use Rattle.std.specs.Result.{result_and}
-use Rattle.fields.proofs.Framing.{read_framed, read_unframed, whole_value}
+use Rattle.fields.proofs.Framing.{read_framed, read_unframed}
 use Rattle.fields.specs.Read.{bytes_in, read_field}
-use Rattle.fields.specs.Rows.{length_of}
 use Rattle.fields.proofs.reader.field_at_front.Goals as goal
 use Rattle.fields.proofs.reader.field_at_front.Goals.{After-check_value}
 
@@ -10,10 +9,6 @@ pub returns-in_err-tag : goal.returns-in_err-tag
 returns-in_err-tag c =
     let why : c.from_residual.result ≡ Err c.in_err-tag.field-0.0 = search rules in
     why ∙ read_unframed c.args.part.now _ (sym c.frame_of.ensures ∙ ap bytes_in c.in_err-tag.was)
-
-pub field_of-field-requires : goal.field_of-field-requires
-unfolding length_of
-field_of-field-requires c = rw c.row_of-row.ensures (whole_value c.args.part.now c.in_ok-tag.value.now c.in_ok-tag.tag (sym c.frame_of.ensures ∙ ap bytes_in c.in_ok-tag.was))
 
 -- what the checks of the value said, as an answer of reading
 checked : (c : After-check_value) → result_and c.check_value.result (Ok c.field_of-field.result) ≡ read_field c.args.part.now

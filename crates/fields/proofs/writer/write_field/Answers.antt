@@ -1,12 +1,8 @@
 use Rattle.std.proofs.Common.{◌≡◌, ◌∙◌, Err, arith, rules}
-use Rattle.fields.proofs.Writing.{room_enough, room_short, settled, write_checked, write_unknown}
-use Rattle.fields.specs.Rows.{length_of}
+use Rattle.fields.proofs.Writing.{room_enough, room_short, settled, write_checked}
 use Rattle.fields.specs.Write.{write_field}
 use Rattle.fields.proofs.writer.write_field.Goals as goal
 use Rattle.fields.proofs.writer.write_field.Goals.{After-check_value}
-
-pub returns-then-not-is_tag : goal.returns-then-not-is_tag
-returns-then-not-is_tag c = write_unknown c.args.field c.args.out.now cc
 
 checked : (c : After-check_value) → settled c.args.field c.args.out.now c.check_value.result ≡ write_field c.args.field c.args.out.now
 checked c = write_checked c.args.field c.args.out.now _ _ (cc) c.row_of-row.ensures c.check_value.ensures
@@ -20,10 +16,6 @@ pub returns-then-out-room : goal.returns-then-out-room
 returns-then-out-room c =
     room_short c.args.field c.args.out.now (omega arith)
     ∙ (rw c.in_ok-check_value.was at (checked (goal.at.returns-then-out-room c).After-check_value))
-
-pub put_field-requires : goal.put_field-requires
-unfolding length_of
-put_field-requires c = rw c.row_of-row.ensures (omega arith)
 
 pub returns : goal.returns
 returns c =

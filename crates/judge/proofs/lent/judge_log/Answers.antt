@@ -1,17 +1,9 @@
 -- `judge::lent::judge_log` meets its contract.
-use Rattle.judge.proofs.Lending.{judged-shown, judged_too_long, judged_too_short, long_enough_lem}
+use Rattle.judge.proofs.Lending.{judged-shown, long_enough_lem}
 use Rattle.judge.specs.Lendings.{lent_in}
 use Rattle.rules.specs.State.{fresh_tally}
 use Rattle.std.proofs.Common.{sym, ◌∙◌}
 use Rattle.judge.proofs.lent.judge_log.Goals as goal
-
-pub returns-in_default-clause-judges : goal.returns-in_default-clause-judges
-returns-in_default-clause-judges c = rw c.declined.ensures (judged_too_long c.args.log.now _ (sym c.in_default.ensures.fits))
-
-pub returns-then-not-are_long_enough-clause-judges : goal.returns-then-not-are_long_enough-clause-judges
-returns-then-not-are_long_enough-clause-judges c =
-    let short = sym (c.are_long_enough.ensures c.args.tally) ∙ c.if-not-are_long_enough.true in
-    rw c.declined-then-not-are_long_enough.ensures (judged_too_short c.args.log.now _ (sym c.in-Ok.ensures.fits) short)
 
 pub run_lent-requires : goal.run_lent-requires
 run_lent-requires c = long_enough_lem (lent_in c.args.buffers.now fresh_tally) (sym (c.are_long_enough.ensures fresh_tally) ∙ c.if-not-are_long_enough.false)

@@ -1,5 +1,5 @@
 -- `judge::plays::play_move` meets its contract.
-use Rattle.judge.proofs.Steps.{play_on, play_stop}
+use Rattle.judge.proofs.Steps.{play_stop}
 use Rattle.judge.specs.LentHeaps.{state_with}
 use Rattle.rules.specs.declared.Change.TheVariants.{Move}
 use Rattle.std.proofs.Common.{refl, rules}
@@ -9,8 +9,3 @@ pub returns-in_err-check_guard-clause-by_rule : goal.returns-in_err-check_guard-
 returns-in_err-check_guard-clause-by_rule c =
     let a = c.args in
     play_stop a.guard (Move a.to a.from) (state_with a.board.now a.heap.now) _ c.in_err-check_guard.field-0.0 (search rules) _ _ _ refl refl (search rules) c.check_guard.ensures c.in_err-check_guard.was
-
-pub returns-clause-by_rule : goal.returns-clause-by_rule
-returns-clause-by_rule c =
-    let a = c.args in
-    play_on a.guard (Move a.to a.from) (state_with a.board.now a.heap.now) _ _ _ _ refl refl (search rules) c.check_guard.ensures c.in_ok-check_guard.was c.move_word.ensures.by_rule

@@ -19,7 +19,7 @@ loop-at-preserved c =
     let read = read_got h.heap.tally.fields (drop h.at log) f placed.0 in
     let step = c.step-stepped in
     let went = c.in-Ok-answer.is in
-    let place = ap (λ (k : ℕ). h.at + (3 + k)) c.value_length.ensures in
+    let place = ap (λ (k : ℕ). h.at + (3 + k)) (c.from.ensures ∙ c.value_length.ensures) in
     let on = goes_on_lem step.result.answer h.heap.tally.fields f h.at _ went place in
     let o = onward_on _ _ h.at (length log) s _ on (turn_onward log h.at within f read.1 s _ step.ensures.by_rule) in (
       (o.0.1, (c.copy_field.auto.out ∙ h.invariant.0.1.0, search (rules, step.ensures.same_lists, h.invariant.0.1.1))),
