@@ -1,5 +1,5 @@
 // The records on standard input: a log's length, 4 bytes with the low byte first, and the log.
-ghost use Rattle.std.specs.Prelude.{◌≤◌, ◌≡◌, ℕ, length};
+ghost use Rattle.std.specs.Prelude.{◌≤◌, ◌≡◌, ℕ};
 ghost use Rattle.batch.specs.declared.input.Next.TheVariants.{Whole};
 
 use fields::Log;
@@ -27,21 +27,17 @@ fn fill<R: Read>(input: &mut R, bytes: &mut [u8]) -> Result<bool> {
 // Reads so many bytes and drops them. Whether there were as many.
 fn skip<R: Read>(input: &mut R, count: usize) -> Result<bool> {
     let mut chunk = [0u8; CHUNK];
-    let mut left = count;
-    // stays a while: a range over whole chunks would need the last one apart
-    while 0 < left {
-        let part = left.min(CHUNK);
+    for start in (0..count).step_by(CHUNK) {
+        let part = (count - start).min(CHUNK);
         if !fill(input, &mut chunk[..part])? {
             return Ok(false);
         }
-        left -= part;
     }
     Ok(true)
 }
 
 // A log of so many bytes. Of one that is too long the first byte too many is kept, and the rest is dropped.
-fn read_log<R: Read>(input: &mut R, bytes: &mut [u8], size: usize) -> Result<Next>
-    requires { length bytes.old ≡ 45057 }
+fn read_log<R: Read>(input: &mut R, bytes: &mut [u8; Log::ROOM], size: usize) -> Result<Next>
     ensures { (n : ℕ) → result ≡ Ok (Whole n) → n ≤ 45057 }
 {
     let length = size.min(Log::ROOM);
@@ -52,8 +48,7 @@ fn read_log<R: Read>(input: &mut R, bytes: &mut [u8], size: usize) -> Result<Nex
     }
 }
 
-pub fn read_record<R: Read>(input: &mut R, bytes: &mut [u8]) -> Result<Next>
-    requires { length bytes.old ≡ 45057 }
+pub fn read_record<R: Read>(input: &mut R, bytes: &mut [u8; Log::ROOM]) -> Result<Next>
     ensures { (n : ℕ) → result ≡ Ok (Whole n) → n ≤ 45057 }
 {
     let mut size = [0u8; 4];

@@ -20,6 +20,7 @@ use std::io::{Read, Write};
 use std::process::ExitCode;
 use streams::{Line, write_line};
 
+// The bound on the log stays a clause, as at `answer_log` of console.
 fn write_record<W: Write + Drop>(output: W, log: &[u8]) -> io::Result<W>
     requires { length log.now ≤ 45057 }
 {

@@ -26,15 +26,14 @@ fn write_replay<W: Write + Drop>(
 {
     match verdict {
         Verdict::Accepted(..) => {
-            match write_whole(&mut to, &output[..log.len()]) {
-                Ok(()) => Ok(to),
-                Err(why) => Err(Failure::Output(why)),
-            }
+            write_whole(&mut to, &output[..log.len()]).map_err(Failure::Output)?;
+            Ok(to)
         }
         _ => Ok(to),
     }
 }
 
+// The bound on the log stays a clause, as at `answer_log` of console.
 fn answer<O: Write + Drop, E: Write + Drop>(
     output: O,
     error: E,
@@ -47,10 +46,8 @@ fn answer<O: Write + Drop, E: Write + Drop>(
     let mut out = [0u8; Log::ROOM];
     let verdict = Memory::fresh().replay(log, &mut out);
     let output = write_replay(output, verdict, log, &out)?;
-    match write_line(error, verdict) {
-        Ok(error) => Ok((output, error)),
-        Err(why) => Err(Failure::Error(why)),
-    }
+    let error = write_line(error, verdict).map_err(Failure::Error)?;
+    Ok((output, error))
 }
 
 fn main(rt: HostRuntime) -> ExitCode {

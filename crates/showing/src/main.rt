@@ -75,6 +75,7 @@ fn write_field<W: Write>(
     }
 }
 
+// The bound on the log stays a clause here and below, as at `answer_log` of console.
 fn write_of_replay<W: Write>(line: &mut W, log: &[u8], number: u32) -> Result<()>
     requires { length log.now ≤ 45057 }
 {
@@ -86,6 +87,7 @@ fn write_of_replay<W: Write>(line: &mut W, log: &[u8], number: u32) -> Result<()
     }
 }
 
+// The choice stays one: `find_field` of show takes it, and only the replay has to be written first.
 fn answer<W: Write + Drop>(output: W, log: &[u8], choice: Choice, number: u32) -> Result<W>
     requires { length log.now ≤ 45057 }
 {

@@ -1,4 +1,5 @@
--- What the system answered determines what was read: two results that the contract of `read_into` allows, by the same calls, are equal.
+-- What the system answered determines what was read: two results that the contract of `read_into` allows, by the same calls, are equal;
+-- but where all calls were made, whose error is no answer, the errors may differ in their words.
 -- Assumes nothing.
 use Prim.Native.Nat.{ℕ, ◌≤◌, ◌<◌}
 use lib.ListN.{length, take}
@@ -39,7 +40,7 @@ one_answer a b (call ∷ earlier) last other = sym last.0 ∙ other.0
 no_both : (e : Error) (made : List Call) → Last (Ok 0) made → Last (Err e) made → ⊥
 no_both e made last other = let same = one_answer (Ok 0) (Err e) made last other in cc
 
--- the same kind of stop; and the same error, but where it is that too many calls were made
+-- the same kind of stop; and the same error, but where all calls were made
 abbrev Same : List Call → Stop → Stop → Type 0
 Same made s t = (is_full s ≡ is_full t) × (is_read s ≡ is_read t) × (length made < calls → s ≡ t)
 

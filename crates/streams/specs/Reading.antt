@@ -1,7 +1,9 @@
 -- What reading into a buffer gives, by what the system answered to each call.
 -- Assumes nothing.
-use Rattle.std.specs.Prelude.{ℕ, ◌<◌, Bool, true, false, List, [], ◌∷◌, ◌++◌, ◌⊎◌, ◌≡◌, Result, Ok, Err, length, take}
+use Rattle.std.specs.Prelude.{ℕ, ◌<◌, Bool, true, false, List, [], ◌∷◌, ◌++◌, ◌⊎◌, ◌≡◌, None, Result, Ok, Err, length, take}
+use Rattle.std.specs.IoError.{error_kind, raw_os_error}
 use Rattle.std.specs.declared.io.Error.{Error}
+use Rattle.std.specs.declared.io.ErrorKind.TheVariants as kinds
 use Rattle.streams.specs.Answers.{AllGoOn, Answer, calls, is_interrupted, moved_of}
 use Rattle.streams.specs.declared.reading.Filled.{Filled}
 use Rattle.streams.specs.declared.reading.Stop.{Stop}
@@ -30,12 +32,16 @@ Last a (call ∷ earlier) = (call.answer ≡ a) × AllGoOn (answers earlier)
 abbrev pub LastFailed : Error → List Call → Type 0
 LastFailed e made = (is_interrupted e ≡ false) × Last (Err e) made
 
+-- all calls were made; the error is none of the system's
+abbrev pub RanOut : Error → List Call → Type 0
+RanOut e made = AllGoOn (answers made) × (length made ≡ calls) × (error_kind e ≡ kinds.Other) × (raw_os_error e ≡ None)
+
 -- why no more was read, the room being the buffer's length. An end is one that a call answered, and before it there were only
 -- bytes and interrupted calls; a full buffer needs no end.
 abbrev pub StopsBy : Stop → ℕ → List Call → Type 0
 StopsBy Full room made = AllGoOn (answers made) × (length (brought made) ≡ room) × (length made < calls)
 StopsBy Ended room made = Last (Ok 0) made
-StopsBy (Broken e) room made = LastFailed e made ⊎ (AllGoOn (answers made) × (length made ≡ calls))
+StopsBy (Broken e) room made = LastFailed e made ⊎ RanOut e made
 
 -- a buffer after reading, how many bytes at its start were read, and why no more: these are all the bytes that the calls brought
 abbrev pub ReadsBy : List ℕ → ℕ → Stop → Type 0

@@ -25,7 +25,7 @@ impl Stop {
     }
 }
 
-// How many bytes were put at the buffer's start, and why no more.
+// How many bytes were put at the buffer's start, and why no more. The length stays beside the buffer, which is the caller's.
 #[derive(Clone, Copy)]
 pub struct Filled {
     pub length: usize,

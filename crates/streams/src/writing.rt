@@ -7,7 +7,8 @@ use crate::is_interrupted;
 use std::io;
 use std::io::{ErrorKind, Write};
 
-// How many bytes from the front on were written, and whether these are all; where not, the error says why.
+// How many bytes from the front on were written, and whether these are all; where not, the error says why. The number stays beside the
+// Result: where a write fails, `Line` drops what was written and keeps the rest.
 pub fn write_front<W: Write>(writer: &mut W, bytes: &[u8]) -> (usize, io::Result<()>)
     ensures front { result.0 ≤ length bytes.now }
     ensures whole { OnOk result.1 (result.0 ≡ length bytes.now) }
