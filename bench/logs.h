@@ -19,7 +19,7 @@ void make_no_frees(Mix *mix);
 void make_half_frees(Mix *mix);
 /* Four cells given out again and again, with marked selectors that outlive each free: one sweep in eight fields. */
 void make_deep_reuse(Mix *mix);
-/* Logs of 1 to 12 random fields: setting out and counting live cells weighs most. Some race or are refused. */
+/* Logs of 1 to 12 random fields: setting out weighs most. Some race or are refused. */
 void make_short_logs(Mix *mix);
 /* Random fields, some of them broken. For the comparison of the judges, not for times. */
 void make_random(Mix *mix, uint32_t seed);
