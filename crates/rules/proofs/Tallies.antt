@@ -1,12 +1,13 @@
 -- What a command does to the tally: one field more, and at most one malloc more. How many cells can be live. And that an accepted
 -- log's numbers are those of the tally.
 -- Assumes nothing.
-use Prim.Native.Nat.{ℕ, ◌+◌, ◌≤◌}
+use Prim.Native.Nat.{ℕ, zero, suc, ◌+◌, ◌<◌, ◌≤◌}
 use mathlib.Core.Bool.{Bool, cond}
 use lib.Dec.{eqb}
-use lib.ListN.{length}
+use lib.ListN.{get_or, length, set}
 use mathlib.Core.List.{List, [], ◌∷◌}
 use mathlib.Core.Path.{◌≡◌, refl}
+use native.Mathlib.Nat.{le_of_suc-le-suc, not-suc-le-zero}
 use native.Mathlib.Omega.{arith}
 use Rattle.std.specs.Prelude.{Ok, Err}
 use Rattle.fields.proofs.Passing.{either}
@@ -18,7 +19,7 @@ use Rattle.rules.specs.declared.Stop.TheVariants.{Race, Refuse}
 use Rattle.rules.specs.declared.Tally.{Tally}
 use Rattle.rules.specs.declared.Verdict.{Verdict}
 use Rattle.rules.specs.declared.Verdict.TheVariants.{Accepted, Declined, Raced, Refused}
-use Rattle.rules.specs.State.{State, live, pointer, store, write}
+use Rattle.rules.specs.State.{State, live, never_used, pointer, store, write}
 use Rattle.rules.specs.Words.{is_unset}
 use Rattle.rules.specs.Check.{Answer, check}
 use Rattle.rules.specs.Commands.{act_of}
@@ -55,6 +56,13 @@ counted a s = record { fields = rw (apply_fields a.change s); mallocs = apply_ma
 
 pub one_at_most : (b : Bool) → cond b 1 0 ≤ 1
 one_at_most b = either (λ n. n ≤ 1) b (omega arith) (omega arith)
+
+-- one status changes: what the one that was there adds to the count, and what the new one adds
+pub live_set : (status : List ℕ) (cell new : ℕ) → cell < length status
+    → live_count (set status cell new) + cond (eqb (get_or status cell never_used) live) 1 0 ≡ live_count status + cond (eqb new live) 1 0
+live_set [] cell new inside = absurd (not-suc-le-zero inside)
+live_set (x ∷ xs) zero new inside = omega arith
+live_set (x ∷ xs) (suc cell) new inside = omega (arith, live_set xs cell new (le_of_suc-le-suc inside))
 
 pub live_at_most : (status : List ℕ) → live_count status ≤ length status
 live_at_most [] = omega arith

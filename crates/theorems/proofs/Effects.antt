@@ -24,9 +24,10 @@ use Rattle.rules.specs.Effect.{count_field, free, give}
 use Rattle.rules.specs.Replay.{starting_data}
 use Rattle.rules.specs.Matching.{Live, Owned}
 use Rattle.rules.proofs.Checks.{Clear}
+use Rattle.rules.proofs.Tallies.{live_set}
 use Rattle.theorems.proofs.Basics.{clash, eqb_self, get_or-set, split}
 use Rattle.theorems.proofs.Words.{freed_at, freed_at_valid, valid-cell}
-use Rattle.theorems.proofs.States.{Sized, Within, cleared_at, count_set, eq_place, status_set, word-free, word-give, word_write}
+use Rattle.theorems.proofs.States.{Sized, Within, cleared_at, eq_place, status_set, word-free, word-give, word_write}
 use Rattle.theorems.proofs.Passed.{reached}
 use Rattle.theorems.proofs.Kept.{live_below, live-cell}
 use Rattle.theorems.proofs.Tied.{Pair, Tied, beside, eq_beside, eqb_m, partner, partner_set, partner_unset, partner_valid, pointer-cell, word_live}
@@ -171,8 +172,8 @@ module _ {R S : State} {m : ℕ → ℕ} (P : Pair R S m) where
         fields = M.fields;
         mallocs = M.mallocs;
         count =
-            let a = count_set R.status c freed (omega (arith, P.left.sized.status)) in
-            let b = count_set S.status (m c) freed (omega (arith, P.right.sized.status)) in
+            let a = live_set R.status c freed (omega (arith, P.left.sized.status)) in
+            let b = live_set S.status (m c) freed (omega (arith, P.right.sized.status)) in
             omega (arith, rw h at a, rw hk at b, M.count);
         live = λ k o. let t = still R c k P.left.sized h o in rw (g (m k), eqb_m P c k h t.1, t.0) (M.live k t.1);
         one = λ k l o q e. M.one k l (still R c k P.left.sized h o).1 (still R c l P.left.sized h q).1 e;
@@ -272,8 +273,8 @@ module _ {R S : State} {m : ℕ → ℕ} (P : Pair R S m) where
           fields = M.fields;
           mallocs = ap (λ (n : ℕ). n + 1) M.mallocs;
           count =
-              let a = count_set R.status c live (omega (arith, P.left.sized.status)) in
-              let b = count_set S.status k live (omega (arith, P.right.sized.status)) in
+              let a = live_set R.status c live (omega (arith, P.left.sized.status)) in
+              let b = live_set S.status k live (omega (arith, P.right.sized.status)) in
               omega (arith, rw (ne_eqb (status_of R c) live nl) at a, rw new at b, M.count);
           live = λ j o. split (eqb c j)
               (λ e. rw (e, g k, eqb_self k) refl)

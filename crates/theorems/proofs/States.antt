@@ -1,10 +1,9 @@
--- The state after each effect: a word after a copy, a free or a malloc; a status after a store; how many cells are live.
+-- The state after each effect: a word after a copy, a free or a malloc; a status after a store.
 -- Assumes nothing.
-use Prim.Native.Nat.{◌*◌, ◌+◌, ◌/◌, ◌<◌, suc, zero, ℕ}
+use Prim.Native.Nat.{◌*◌, ◌+◌, ◌/◌, ◌<◌, ℕ}
 use mathlib.Core.Path.{◌∙◌, ◌≡◌, ap, refl, subst}
 use mathlib.Core.Bool.{Bool, ◌&&◌, cond, false}
-use mathlib.Core.List.{List, [], ◌∷◌, map}
-use native.Mathlib.Nat.{le_of_suc-le-suc, not-suc-le-zero}
+use mathlib.Core.List.{List, map}
 use native.Mathlib.Omega.{arith}
 use borrow.Author.Tests.{eq-eqb, eqb-false, eqb-true, ne_eqb}
 use lib.Dec.{eqb}
@@ -13,9 +12,8 @@ use lib.Seq.{get_or-set_other}
 use Rattle.rules.specs.declared.Place.{Place}
 use Rattle.rules.specs.declared.Place.TheVariants.{PointerWord, SelectorWord}
 use Rattle.rules.specs.Words.{after_free, invalidated, unset, word_at}
-use Rattle.rules.specs.State.{State, live, never_used, status_of, word, write}
+use Rattle.rules.specs.State.{State, never_used, status_of, word, write}
 use Rattle.rules.specs.Effect.{change_own, change_word, free, give}
-use Rattle.rules.specs.Run.{live_count}
 use Rattle.theorems.proofs.Basics.{get_or-set, split}
 use Rattle.theorems.proofs.Words.{after_free-unset, freed_at, invalidated-after_free}
 
@@ -90,8 +88,3 @@ word-give s p c d (SelectorWord j) z hp hc = split (eqb (status_of s c) never_us
 -- ---- statuses
 pub status_set : (s : State) (c v : ℕ) → Sized s → c < 1024 → (k : ℕ) → get_or (set s.status c v) k never_used ≡ cond (eqb c k) v (status_of s k)
 status_set s c v z h k = get_or-set s.status c k v never_used (omega (arith, z.status))
-
-pub count_set : (l : List ℕ) (c v : ℕ) → c < length l → live_count (set l c v) + cond (eqb (get_or l c never_used) live) 1 0 ≡ live_count l + cond (eqb v live) 1 0
-count_set [] c v h = absurd (not-suc-le-zero h)
-count_set (x ∷ l) zero v h = omega arith
-count_set (x ∷ l) (suc c) v h = omega (arith, count_set l c v (le_of_suc-le-suc h))
