@@ -1,10 +1,11 @@
 -- The table of tags: one line for each, in the order thread, slots, cell, number. The thread stands in every row, so no line says it.
 -- Assumes nothing.
-use Rattle.std.specs.Prelude.{ℕ, Bool, true, false, cond, ◌&&◌, List, [], ◌∷◌, ltb, get_or, length}
+use Rattle.std.specs.Prelude.{ℕ, ◌+◌, Bool, true, false, cond, ◌&&◌, List, [], ◌∷◌, ltb, get_or, length}
 use Rattle.fields.specs.declared.rows.Slot.{Slot}
 use Rattle.fields.specs.declared.rows.Slot.TheVariants.{Absent, Pointer, Data, Selector}
 use Rattle.fields.specs.declared.rows.Row.{Row}
 use Rattle.fields.specs.Bytes.{total}
+use Rattle.fields.specs.Limits.{header_bytes}
 
 abbrev pub row : Slot → Slot → Slot → Bool → Bool → Row
 row first second third cell number = record { 0 = first; 1 = second; 2 = third; 3 = cell; 4 = number }
@@ -86,3 +87,7 @@ widths_of r =
 
 unfoldable pub length_of : ℕ → ℕ
 length_of tag = total (widths_of (row_of tag))
+
+-- the bytes of a field of this tag, header and value
+abbrev pub field_size : ℕ → ℕ
+field_size tag = header_bytes + length_of tag

@@ -2,9 +2,9 @@
 -- Assumes nothing.
 use Rattle.std.proofs.Common.{Ok, ◌≡◌, ℕ, zero, suc, ◌+◌, ◌<◌, ◌≤◌, List, [], ◌++◌, length, drop, sym, refl, ap, ◌∙◌, arith, take-append-drop, drop_of_length-le}
 use Rattle.fields.specs.declared.Field.{Field}
-use Rattle.fields.specs.Limits.{header_bytes, log_fields}
+use Rattle.fields.specs.Limits.{log_fields}
 use Rattle.fields.specs.Read.{read_field}
-use Rattle.fields.specs.Rows.{length_of}
+use Rattle.fields.specs.Rows.{field_size}
 use Rattle.rules.specs.Commands.{act_of}
 use Rattle.rules.specs.Log.{run_bytes}
 use Rattle.rules.specs.Replay.{copy_field, next_cell}
@@ -21,7 +21,7 @@ Underway log out₀ s₀ n at s out = length log ≤ length out₀ → output_fr
 -- ---- one turn
 pub underway_on : (log out₀ : List ℕ) (s₀ : State) (n m at : ℕ) (s : State) (out : List ℕ) → Underway log out₀ s₀ n at s out → length out ≡ length out₀ → n ≡ suc m → at < length log
     → (f : Field) → read_field (drop at log) ≡ Ok f → (step : Step) → step ≡ step_of (act_of f) s → step.answer ≡ Ok tt
-    → (b : ℕ) → b ≡ at + (header_bytes + length_of f.tag) → (out' : List ℕ) → out' ≡ copied_at at (copy_field s (next_cell s) f) out
+    → (b : ℕ) → b ≡ at + field_size f.tag → (out' : List ℕ) → out' ≡ copied_at at (copy_field s (next_cell s) f) out
     → Underway log out₀ s₀ m b step.state out'
 underway_on log out₀ s₀ n m at s out u size fuel within f read step stepped goes b place out' copied room =
     rw (place, copied) (copy_got log at within f read s step stepped goes out (omega arith) m ∙ (rw fuel at (u room)))

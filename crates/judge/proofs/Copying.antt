@@ -7,9 +7,9 @@ use Rattle.fields.proofs.Writing.{length-field_bytes, writes}
 use Rattle.fields.specs.declared.Field.{Field}
 use Rattle.fields.specs.Checks.{is_cell, value_checks}
 use Rattle.fields.specs.Every.{Every}
-use Rattle.fields.specs.Limits.{cells, header_bytes}
+use Rattle.fields.specs.Limits.{cells}
 use Rattle.fields.specs.Read.{read_field}
-use Rattle.fields.specs.Rows.{length_of, row_of}
+use Rattle.fields.specs.Rows.{field_size, row_of}
 use Rattle.fields.specs.Write.{field_bytes}
 use Rattle.rules.proofs.Checks.{Clear, passed_by}
 use Rattle.rules.specs.declared.Stop.TheVariants.{Race}
@@ -70,7 +70,7 @@ module _ (out bytes : List ℕ) (at : ℕ) (room : at + length bytes ≤ length 
 
 -- ---- the replay, by what is read at the front of the bytes
 replay_got : (n : ℕ) (b : List ℕ) (s : State) (f : Field) → 0 < length b → read_field b ≡ Ok f
-    → replay_from (suc n) b s ≡ field_bytes (copy_field s (next_cell s) f) ++ replay_from n (drop (header_bytes + length_of f.tag) b) (effect (act_of f) s)
+    → replay_from (suc n) b s ≡ field_bytes (copy_field s (next_cell s) f) ++ replay_from n (drop (field_size f.tag) b) (effect (act_of f) s)
 unfolding replay_from
 replay_got n [] s f some e = absurd (not-suc-le-zero some)
 replay_got n (x ∷ b) s f some e = rw e
@@ -83,7 +83,7 @@ output_from n log at s out = take at out ++ (replay_from n (drop at log) s ++ dr
 module _ (l : List ℕ) (at : ℕ) (within : at < length l) (f : Field) (read : read_field (drop at l) ≡ Ok f)
     (s : State) (step : Step) (stepped : step ≡ step_of (act_of f) s) (goes : step.answer ≡ Ok tt) (out : List ℕ) (room : length l ≤ length out) where
   abbrev size : ℕ
-  size = header_bytes + length_of f.tag
+  size = field_size f.tag
 
   abbrev copy : Field
   copy = copy_field s (next_cell s) f

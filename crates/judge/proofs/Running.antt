@@ -7,9 +7,9 @@ use Rattle.fields.specs.declared.Refusal.{Refusal}
 use Rattle.fields.specs.declared.Refusal.TheVariants.{TooManyFields}
 use Rattle.fields.specs.Checks.{value_checks}
 use Rattle.fields.specs.Every.{Every}
-use Rattle.fields.specs.Limits.{header_bytes, log_fields}
+use Rattle.fields.specs.Limits.{log_fields}
 use Rattle.fields.specs.Read.{Reading, field_of, framing_checks, read_field, tag_in, value_in}
-use Rattle.fields.specs.Rows.{is_tag, length_of, row_of}
+use Rattle.fields.specs.Rows.{field_size, is_tag, length_of, row_of}
 use Rattle.rules.proofs.Tallies.{counted}
 use Rattle.rules.specs.declared.Stop.{Stop}
 use Rattle.rules.specs.declared.Stop.TheVariants.{Race, Refuse}
@@ -26,7 +26,7 @@ use Rattle.judge.specs.Steps.{Step, state_after, step_of}
 -- ---- a field that was read lies within the bytes, and it passed the checks
 pub record Passed (s : List ℕ) (f : Field) : Type 0 where
   pub tag : tag_in s ≡ f.tag
-  pub fits : header_bytes + length_of f.tag ≤ length s
+  pub fits : field_size f.tag ≤ length s
   pub known : is_tag f.tag ≡ true
   pub right : Every Passes (value_checks (row_of f.tag) f)
 
@@ -53,7 +53,7 @@ run_opened n b s = refl
 
 -- ---- the run, by what is read at the front of the bytes
 pub run_got : (n : ℕ) (b : List ℕ) (s : State) (f : Field) → 0 < length b → read_field b ≡ Ok f
-    → run_from (suc n) b s ≡ next (check (act_of f) s) s.fields f s (run_from n (drop (header_bytes + length_of f.tag) b) (effect (act_of f) s))
+    → run_from (suc n) b s ≡ next (check (act_of f) s) s.fields f s (run_from n (drop (field_size f.tag) b) (effect (act_of f) s))
 unfolding run_from
 run_got n [] s f some e = absurd (not-suc-le-zero some)
 run_got n (x ∷ b) s f some e = rw e
@@ -107,7 +107,7 @@ module _ (l : List ℕ) (at : ℕ) (within : at < length l) where
 
   module _ (f : Field) (read : read_field (drop at l) ≡ Ok f) (s : State) (step : Step) (stepped : step ≡ step_of (act_of f) s) where
     by_answer : (n : ℕ) (k : Answer) → followed n (next_after k s.fields f at) l (state_after k s (effect (act_of f) s))
-        ≡ next k s.fields f s (run_from n (drop (header_bytes + length_of f.tag) (drop at l)) (effect (act_of f) s))
+        ≡ next k s.fields f s (run_from n (drop (field_size f.tag) (drop at l)) (effect (act_of f) s))
     by_answer n (Ok _) = rw drop-drop
     by_answer n (Err (Race p)) = refl
     by_answer n (Err (Refuse r)) = refl
@@ -153,19 +153,19 @@ loop_end l at s o n c past whole count = rw count (sym (run_none n s) ∙ (rw (d
 pub onward_on : (x : Following) (b at end : ℕ) (t t' : State) → x ≡ on b → Onward x at end t t' → Onward (on b) at end t t'
 onward_on x b at end t t' e h = rw e at h
 
-pub goes_on_lem : (k : Answer) (n : ℕ) (f : Field) (at b : ℕ) → k ≡ Ok tt → b ≡ at + (header_bytes + length_of f.tag) → next_after k n f at ≡ on b
+pub goes_on_lem : (k : Answer) (n : ℕ) (f : Field) (at b : ℕ) → k ≡ Ok tt → b ≡ at + field_size f.tag → next_after k n f at ≡ on b
 goes_on_lem k n f at b went place = rw (went, place)
 
 -- ---- where a field begins
-pub offset_next : (n : ℕ) (log : List ℕ) → offset_of (suc n) log ≡ offset_of n log + (header_bytes + length_of (tag_in (drop (offset_of n log) log)))
+pub offset_next : (n : ℕ) (log : List ℕ) → offset_of (suc n) log ≡ offset_of n log + (field_size (tag_in (drop (offset_of n log) log)))
 offset_next zero log = omega arith
 offset_next (suc n) log =
-    let size = header_bytes + length_of (tag_in log) in
+    let size = field_size (tag_in log) in
     let later = offset_next n (drop size log) in
     let there : drop (offset_of n (drop size log)) (drop size log) ≡ drop (size + offset_of n (drop size log)) log = drop-drop (offset_of n (drop size log)) size log in
     omega (arith, rw there at later)
 
-pub offset_on : (n m : ℕ) (log : List ℕ) (at b : ℕ) (f : Field) → at ≡ offset_of n log → read_field (drop at log) ≡ Ok f → b ≡ at + (header_bytes + length_of f.tag) → m ≡ n + 1 → b ≡ offset_of m log
+pub offset_on : (n m : ℕ) (log : List ℕ) (at b : ℕ) (f : Field) → at ≡ offset_of n log → read_field (drop at log) ≡ Ok f → b ≡ at + field_size f.tag → m ≡ n + 1 → b ≡ offset_of m log
 offset_on n m log at b f here read place counted =
     let tag : tag_in (drop at log) ≡ f.tag = (got_passed (drop at log) f read).tag in
     let later : m ≡ suc n = omega arith in

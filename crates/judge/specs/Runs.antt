@@ -3,9 +3,9 @@
 use Rattle.std.specs.Prelude.{◌≡◌, ℕ, ◌+◌, ◌<◌, ◌≤◌, cond, List, drop, nat_lt, Ok, Err}
 use Rattle.fields.specs.declared.Field.{Field}
 use Rattle.fields.specs.declared.Refusal.TheVariants.{TooManyFields}
-use Rattle.fields.specs.Limits.{header_bytes, log_fields}
+use Rattle.fields.specs.Limits.{log_fields}
 use Rattle.fields.specs.Read.{Reading, read_field}
-use Rattle.fields.specs.Rows.{length_of}
+use Rattle.fields.specs.Rows.{field_size}
 use Rattle.rules.specs.declared.Stop.{Stop}
 use Rattle.rules.specs.declared.Stop.TheVariants.{Race, Refuse}
 use Rattle.rules.specs.Check.{Answer}
@@ -36,7 +36,7 @@ ended_by (Refuse r) n thread = Refused r n
 
 -- what follows field n, being f and read at a place, by its answer
 abbrev pub next_after : Answer → ℕ → Field → ℕ → Following
-next_after (Ok _) n f at = on (at + (header_bytes + length_of f.tag))
+next_after (Ok _) n f at = on (at + field_size f.tag)
 next_after (Err stop) n f at = ended (ended_by stop n f.thread)
 
 -- the outcome, where at most n fields may follow

@@ -3,8 +3,7 @@
 use Rattle.std.specs.Prelude.{ℕ, zero, suc, ◌+◌, List, [], ◌∷◌, drop, Ok, Err}
 use Rattle.fields.specs.declared.Field.{Field}
 use Rattle.fields.specs.declared.Refusal.TheVariants.{TooManyFields}
-use Rattle.fields.specs.Limits.{header_bytes}
-use Rattle.fields.specs.Rows.{length_of}
+use Rattle.fields.specs.Rows.{field_size}
 use Rattle.fields.specs.Read.{Reading, read_field, tag_in}
 use Rattle.rules.specs.declared.Verdict.{Verdict}
 use Rattle.rules.specs.declared.Verdict.TheVariants as told
@@ -21,7 +20,7 @@ no_fields end = record { fields = []; end = end }
 -- what was read at the front of bytes, and what the rest of them parses as
 abbrev pub onward : Reading → List ℕ → (List ℕ → Parsed) → Parsed
 onward (Ok f) bytes parse_rest =
-    let rest = parse_rest (drop (header_bytes + length_of f.tag) bytes) in
+    let rest = parse_rest (drop (field_size f.tag) bytes) in
     record { fields = f ∷ rest.fields; end = rest.end }
 onward (Err r) bytes parse_rest = no_fields (unread r)
 
@@ -37,7 +36,7 @@ run_bytes n bytes s = run_to (parse n bytes).end (parse n bytes).fields s
 -- the byte offset of field n: where it begins, after the fields before it
 abbrev pub offset_of : ℕ → List ℕ → ℕ
 offset_of zero bytes = 0
-offset_of (suc n) bytes = let size = header_bytes + length_of (tag_in bytes) in size + offset_of n (drop size bytes)
+offset_of (suc n) bytes = let size = field_size (tag_in bytes) in size + offset_of n (drop size bytes)
 
 -- the field at which a run ends
 abbrev pub end_field : Ending → ℕ

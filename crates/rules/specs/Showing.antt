@@ -10,7 +10,7 @@ use Rattle.fields.specs.Bytes.{total}
 use Rattle.fields.specs.Limits.{header_bytes, log_bytes, log_fields, log_mallocs}
 use Rattle.fields.specs.Order.{in_order, test}
 use Rattle.fields.specs.Read.{field_of, tag_in, value_in}
-use Rattle.fields.specs.Rows.{length_of, row_of, widths_of}
+use Rattle.fields.specs.Rows.{field_size, row_of, widths_of}
 use Rattle.rules.specs.declared.Choice.{Choice}
 use Rattle.rules.specs.declared.Choice.TheVariants.{Recording, Replay}
 use Rattle.rules.specs.declared.Part.{Part}
@@ -39,7 +39,7 @@ fields_read log = roomy 0 (parse log_fields log).fields
 -- ---- the answer: where the field's bytes stand in the log and how many they are, or why there are none; and the part that it names
 -- how many bytes the field at the front of a part has
 abbrev pub size_in : List ℕ → ℕ
-size_in part = header_bytes + length_of (tag_in part)
+size_in part = field_size (tag_in part)
 
 -- a part, or a refusal and its field
 abbrev pub Shown : Type 0

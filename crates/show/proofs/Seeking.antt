@@ -17,10 +17,10 @@ use Rattle.fields.proofs.Passing.{all_passed, either}
 use Rattle.fields.specs.declared.Field.{Field}
 use Rattle.fields.specs.declared.Refusal.{Refusal}
 use Rattle.fields.specs.declared.Refusal.TheVariants.{FieldNotReached, LogTooLong}
-use Rattle.fields.specs.Limits.{header_bytes, log_bytes, log_fields, log_mallocs}
+use Rattle.fields.specs.Limits.{log_bytes, log_fields, log_mallocs}
 use Rattle.fields.specs.Order.{test}
 use Rattle.fields.specs.Read.{Reading, read_field}
-use Rattle.fields.specs.Rows.{length_of}
+use Rattle.fields.specs.Rows.{field_size}
 use Rattle.judge.proofs.Running.{got_passed}
 use Rattle.rules.specs.declared.Part.{Part}
 use Rattle.rules.specs.Log.{offset_of, onward, parse}
@@ -39,7 +39,7 @@ few_parsed (suc k) [] = omega arith
 few_parsed (suc k) (x ∷ b) = by (read_field (x ∷ b)) (λ rest. few_parsed k rest)
   where
     by : (r : Reading) → ((rest : List ℕ) → length (parse k rest).fields ≤ k) → length (onward r (x ∷ b) (λ rest. parse k rest)).fields ≤ suc k
-    by (Ok f) few = omega (arith, few (drop (header_bytes + length_of f.tag) (x ∷ b)))
+    by (Ok f) few = omega (arith, few (drop (field_size f.tag) (x ∷ b)))
     by (Err r) few = omega arith
 
 few_roomy : (before : ℕ) (fs : List Field) → length (roomy before fs) ≤ length fs
@@ -61,8 +61,8 @@ unfolding read_field
 count_next k before [] = refl
 count_next k before (x ∷ b) = by (read_field (x ∷ b))
   where
-    told : (f : Field) (t : Bool) → length (cond t (f ∷ roomy (before + mallocs_of f) (parse k (drop (header_bytes + length_of f.tag) (x ∷ b))).fields) [])
-        ≡ count_by k (x ∷ b) (cond t (Some (record { size = header_bytes + length_of f.tag; mallocs = before + mallocs_of f })) None)
+    told : (f : Field) (t : Bool) → length (cond t (f ∷ roomy (before + mallocs_of f) (parse k (drop (field_size f.tag) (x ∷ b))).fields) [])
+        ≡ count_by k (x ∷ b) (cond t (Some (record { size = field_size f.tag; mallocs = before + mallocs_of f })) None)
     told f true = refl
     told f false = refl
 
@@ -81,13 +81,13 @@ pub fronted : (b : List ℕ) (before : ℕ) (front : Front) → front_of before 
 fronted b before front e = by (read_field b) refl e
   where
     told : (f : Field) (t : Bool) → read_field b ≡ Ok f → leb (before + mallocs_of f) log_mallocs ≡ t
-        → cond t (Some (record { size = header_bytes + length_of f.tag; mallocs = before + mallocs_of f })) None ≡ Some front → Fronted b front
+        → cond t (Some (record { size = field_size f.tag; mallocs = before + mallocs_of f })) None ≡ Some front → Fronted b front
     told f true got room e =
-        let same : record { size = header_bytes + length_of f.tag; mallocs = before + mallocs_of f } ≡ front = cc in
+        let same : record { size = field_size f.tag; mallocs = before + mallocs_of f } ≡ front = cc in
         let s = ap (λ (x : Front). x.size) same in
         let m = ap (λ (x : Front). x.mallocs) same in
         record {
-          told = sym s ∙ ap (λ n. header_bytes + length_of n) (sym (got_passed b f got).tag);
+          told = sym s ∙ ap (λ n. field_size n) (sym (got_passed b f got).tag);
           fits = rw (← s) (got_passed b f got).fits;
           some = omega (arith, s);
           room = rw (← m) (leb-true (before + mallocs_of f) log_mallocs room);

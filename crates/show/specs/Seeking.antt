@@ -2,8 +2,8 @@
 -- Assumes nothing.
 use Rattle.std.specs.Prelude.{ℕ, ◌+◌, cond, List, leb, ltb, drop, length, Option, Some, None, Ok, Err}
 use Rattle.fields.specs.Read.{Reading}
-use Rattle.fields.specs.Limits.{header_bytes, log_mallocs}
-use Rattle.fields.specs.Rows.{length_of}
+use Rattle.fields.specs.Limits.{log_mallocs}
+use Rattle.fields.specs.Rows.{field_size}
 use Rattle.rules.specs.declared.Part.{Part}
 use Rattle.rules.specs.Log.{offset_of, parse}
 use Rattle.rules.specs.Showing.{mallocs_of, roomy, size_in}
@@ -13,7 +13,7 @@ use Rattle.show.specs.declared.seek.Front.{Front}
 abbrev pub front_of : ℕ → Reading → Option Front
 front_of before (Ok f) =
     cond (leb (before + mallocs_of f) log_mallocs)
-    (Some (record { size = header_bytes + length_of f.tag; mallocs = before + mallocs_of f }))
+    (Some (record { size = field_size f.tag; mallocs = before + mallocs_of f }))
     None
 front_of before (Err r) = None
 

@@ -10,15 +10,14 @@ use lib.ListN.{length, length-drop}
 use Rattle.std.specs.Prelude.{Ok, Err}
 use Rattle.fields.specs.declared.Field.{Field}
 use Rattle.fields.specs.Checks.{value_checks}
-use Rattle.fields.specs.Limits.{header_bytes}
 use Rattle.fields.specs.Every.{Every}
 use Rattle.fields.specs.Read.{Reading, field_of, framing_checks, read_field, tag_in, value_in}
-use Rattle.fields.specs.Rows.{is_tag, length_of, row_of}
+use Rattle.fields.specs.Rows.{field_size, is_tag, length_of, row_of}
 use Rattle.fields.proofs.Passing.{Passes, all_passed, every_cut}
 
 pub record Fetched (s : List ℕ) (f : Field) : Type 0 where
   pub tag : tag_in s ≡ f.tag
-  pub fits : header_bytes + length_of f.tag ≤ length s
+  pub fits : field_size f.tag ≤ length s
   pub known : is_tag f.tag ≡ true
   pub right : Every Passes (value_checks (row_of f.tag) f)
 

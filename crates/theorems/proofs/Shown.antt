@@ -21,7 +21,7 @@ use Rattle.fields.specs.Limits.{header_bytes, log_bytes, log_fields, log_mallocs
 use Rattle.fields.specs.Order.{Test, in_order, test}
 use Rattle.fields.specs.Read.{Reading, field_of, framing_checks, read_field, tag_in, value_in}
 use Rattle.fields.specs.Refusals.{number_of}
-use Rattle.fields.specs.Rows.{is_tag, length_of, row_of, widths_of}
+use Rattle.fields.specs.Rows.{field_size, is_tag, length_of, row_of, widths_of}
 use Rattle.fields.specs.Write.{field_bytes}
 use Rattle.fields.proofs.Digits.{length_to_bytes}
 use Rattle.fields.proofs.Passing.{all_passed, either}
@@ -303,7 +303,7 @@ parse_end (suc k) (x ∷ b) r e = by (read_field (x ∷ b)) refl e (λ rest q. p
   where
     by : (y : Reading) → read_field (x ∷ b) ≡ y → (onward y (x ∷ b) (λ rest. parse k rest)).end ≡ unread r
         → ((rest : List ℕ) → (parse k rest).end ≡ unread r → ByReading r) → ByReading r
-    by (Ok f) read e later = later (drop (header_bytes + length_of f.tag) (x ∷ b)) e
+    by (Ok f) read e later = later (drop (field_size f.tag) (x ∷ b)) e
     by (Err q) read e later = let same : q ≡ r = cc in read_refusal (x ∷ b) r (read ∙ ap Err same)
 
 -- a stop at field n by what the field does: a race, or a refusal that no reading check gives
