@@ -20,7 +20,7 @@ use Rattle.theorems.specs.Paper.{Adr, DExp, Heap, InUse, PExp, Partial, Selector
 use Rattle.theorems.specs.Beside.{adr_of, dval_of, freed_of, is_allocated, is_there, place_of, pval_of, valid_of}
 use Rattle.theorems.proofs.Basics.{clash, eqb_self, eqb_turn, get_or-set, split}
 use Rattle.theorems.proofs.Words.{after_free-unset, cell_freed_at, cell_small, cell-unset, freed_at, unset_freed_at, unset-unset, valid_below, valid-invalidated}
-use Rattle.theorems.proofs.States.{Sized, Within, cleared_at, eq_place, status_set, word-free, word-give, word_write}
+use Rattle.theorems.proofs.States.{Sized, Within, cleared_at, eq_place, status_free, status_set, word-free, word-give, word_write}
 use Rattle.theorems.proofs.Sound.{owned}
 use Rattle.theorems.proofs.Effects.{cell-give, starting_data_new}
 
@@ -181,13 +181,9 @@ module _ (s : State) (c : ℕ) (T : Traced (word s) (status_of s)) (hc : c < 102
 
 -- ---- after a free of the live cell c
 module _ (s : State) (c : ℕ) (z : Sized s) (T : Traced (word s) (status_of s)) (l : Live s c) (hc : c < 1024) where
-  free_status : (k : ℕ) → status_of (free c s) k ≡ cond (eqb c k) freed (status_of s k)
-  unfolding free
-  free_status k = status_set s c freed z hc k
-
   free_there : (e : PExp) → is_there (free c s) e ≡ is_there s e
   free_there (pointer_var p) = refl
-  free_there (next_of a i) = rw (free_status a) (split (eqb c a)
+  free_there (next_of a i) = rw (status_free s c z hc a) (split (eqb c a)
       (λ t.
       let there : is_allocated s a ≡ true = allocated_live s a (rw (eqb-true c a t) at l) in
       rw (t, there) refl)
@@ -218,7 +214,7 @@ module _ (s : State) (c : ℕ) (z : Sized s) (T : Traced (word s) (status_of s))
       (λ t. rw (t, eqb_turn a c, t) (valid-after_free (word s x))))
 
   pub freed-free : (a : ℕ) → freed_of (free c s) a ≡ freed_of s a || eqb c a
-  freed-free a = rw (free_status a) (split (eqb c a)
+  freed-free a = rw (status_free s c z hc a) (split (eqb c a)
       (λ t. rw (t, or-true (freed_of s a)) refl)
       (λ t. rw (t, or-false (freed_of s a)) refl))
 

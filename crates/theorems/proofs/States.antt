@@ -12,7 +12,7 @@ use lib.Seq.{get_or-set_other}
 use Rattle.rules.specs.declared.Place.{Place}
 use Rattle.rules.specs.declared.Place.TheVariants.{PointerWord, SelectorWord}
 use Rattle.rules.specs.Words.{after_free, invalidated, unset, word_at}
-use Rattle.rules.specs.State.{State, never_used, status_of, word, write}
+use Rattle.rules.specs.State.{State, freed, never_used, status_of, word, write}
 use Rattle.rules.specs.Effect.{change_own, change_word, free, give}
 use Rattle.theorems.proofs.Basics.{get_or-set, split}
 use Rattle.theorems.proofs.Words.{after_free-unset, freed_at, invalidated-after_free}
@@ -88,3 +88,7 @@ word-give s p c d (SelectorWord j) z hp hc = split (eqb (status_of s c) never_us
 -- ---- statuses
 pub status_set : (s : State) (c v : ℕ) → Sized s → c < 1024 → (k : ℕ) → get_or (set s.status c v) k never_used ≡ cond (eqb c k) v (status_of s k)
 status_set s c v z h k = get_or-set s.status c k v never_used (omega (arith, z.status))
+
+pub status_free : (s : State) (c : ℕ) → Sized s → c < 1024 → (k : ℕ) → status_of (free c s) k ≡ cond (eqb c k) freed (status_of s k)
+unfolding free
+status_free s c z h k = status_set s c freed z h k

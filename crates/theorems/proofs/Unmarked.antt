@@ -46,7 +46,7 @@ use Rattle.theorems.specs.Beside.{passing}
 use Rattle.theorems.specs.Renewed.{NewCells, field_at}
 use Rattle.theorems.proofs.Basics.{eqb_self, every_map, split}
 use Rattle.theorems.proofs.Words.{cell-after_free, cell-cell, cell-invalidated, cell_small, cell-unset, freed_at, unset-cell, valid_below, valid-invalidated}
-use Rattle.theorems.proofs.States.{Sized, Within, cleared_at, eq_place, status_set, word-free, word-give, word_write}
+use Rattle.theorems.proofs.States.{Sized, Within, cleared_at, eq_place, status_free, status_set, word-free, word-give, word_write}
 use Rattle.theorems.proofs.Passed.{looked, passed}
 use Rattle.theorems.proofs.Kept.{Inv, Named, NamedAct, found, freed-live, inv_fresh, keep, live_below, status_fresh, word-fresh}
 use Rattle.theorems.proofs.Effects.{still}
@@ -180,15 +180,11 @@ honest_write s x y z wx oy h = λ u o.
     rw (word_write s x u (word s y) z wx) (either (Honest (status_of s)) (eq_place x u) (h y oy) (h u o))
 
 module _ (s : State) (c : ℕ) (z : Sized s) (l : Live s c) where
-  after_free_lem : (k : ℕ) → status_of (free c s) k ≡ cond (eqb c k) freed (status_of s k)
-  unfolding free
-  after_free_lem k = status_set s c freed z (live_below s c z l) k
-
   honest_after_free : (w : ℕ) → Honest (status_of s) w → Honest (status_of (free c s)) (after_free c w)
   unfolding after_free
   honest_after_free w t = split (eqb c (cell_of w))
-      (λ e. rw (e, cell-invalidated w, valid-invalidated w, after_free_lem (cell_of w), e) refl)
-      (λ e. rw (e, after_free_lem (cell_of w), e) t)
+      (λ e. rw (e, cell-invalidated w, valid-invalidated w, status_free s c z (live_below s c z l) (cell_of w), e) refl)
+      (λ e. rw (e, status_free s c z (live_below s c z l) (cell_of w), e) t)
 
   honest_freed_at : (u : Place) → Owned (status_of (free c s)) u → AllHonest s → Honest (status_of (free c s)) (freed_at c u (word s u))
   unfolding AllHonest
@@ -278,7 +274,7 @@ clean_apply (Release p) s l C n f v u = split (is_unset (pointer s p))
     let h : Live s c = freed-live s p C.inv f t in
     rw t (
       honest_free s c C.inv.sized h C.honest,
-      unused_set (status_of s) (status_of (free c s)) c freed l (after_free_lem s c C.inv.sized h) (absent_live (status_of s) c l h C.unused) C.unused,
+      unused_set (status_of s) (status_of (free c s)) c freed l (status_free s c C.inv.sized (live_below s c C.inv.sized h)) (absent_live (status_of s) c l h C.unused) C.unused,
       C.distinct,
     ))
 clean_apply (Move x y) s l C n f v u =
