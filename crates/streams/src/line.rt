@@ -3,7 +3,7 @@
 ghost use Rattle.std.specs.Io.KnownBytes.{Appends, Keeps};
 ghost use Rattle.std.specs.Fmt.{with_newline};
 ghost use Rattle.std.specs.Prelude.{◌≡◌, [], IfOk, IfSome, OnOk};
-ghost use Rattle.streams.specs.Lines.{line_contents, line_rest};
+ghost use Rattle.streams.specs.Lines.{fresh_line, line_contents, line_rest};
 
 use crate::writing::write_front;
 use arrayvec::ArrayVec;
@@ -21,7 +21,7 @@ pub struct Line<W> {
 
 impl<W: Write> Line<W> {
     pub fn new(to: W) -> Self
-        ensures { result ≡ record { to = to; text = record { items = [] } } }
+        ensures { result ≡ fresh_line to }
     {
         Line {
             to,
