@@ -26,10 +26,15 @@ pub record SameSizes (before after : Lent) : Type 0 where
   pub numbers : length after.numbers ≡ length before.numbers
   pub status : length after.status ≡ length before.status
 
--- what is borrowed afterwards is what was borrowed before: said wherever the struct is taken by `&mut`, as for LentHeap
+-- what is borrowed afterwards is what was borrowed before, no longer or shorter: said wherever the struct is taken by `&mut`, as for LentHeap
 pub record SameBuffers (before after : Buffers) : Type 0 where
   pub pointers : after.pointers.ghost_name ≡ before.pointers.ghost_name
   pub selectors : after.selectors.ghost_name ≡ before.selectors.ghost_name
   pub variables : after.variables.ghost_name ≡ before.variables.ghost_name
   pub numbers : after.numbers.ghost_name ≡ before.numbers.ghost_name
   pub status : after.status.ghost_name ≡ before.status.ghost_name
+  pub pointers_size : length after.pointers.now ≡ length before.pointers.now
+  pub selectors_size : length after.selectors.now ≡ length before.selectors.now
+  pub variables_size : length after.variables.now ≡ length before.variables.now
+  pub numbers_size : length after.numbers.now ≡ length before.numbers.now
+  pub status_size : length after.status.now ≡ length before.status.now
