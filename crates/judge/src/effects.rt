@@ -1,6 +1,6 @@
 // What a command that passed the checks does to the board, the heap and the tally.
-ghost use Rattle.std.specs.Prelude.{◌≡◌, ◌+◌, ◌%◌, ◌<◌, if◌then◌else◌, nat_eq, slice_set};
-ghost use Rattle.fields.specs.Limits.{log_mallocs};
+ghost use Rattle.std.specs.Prelude.{◌≡◌, ◌+◌, ◌%◌, ◌≤◌, if◌then◌else◌, nat_eq, slice_set};
+ghost use Rattle.fields.specs.Limits.{log_fields};
 ghost use Rattle.judge.specs.LentHeaps.{SameLists, state_with};
 ghost use Rattle.rules.specs.Acts.{data_place_in, place_in, value_in};
 ghost use Rattle.rules.specs.Effect.{apply, change_own, free, give};
@@ -106,7 +106,7 @@ fn renew(selectors: &mut [u16], numbers: &mut [u32], was: u8, cell: u16, number:
 
 #[tactic(auto, unfolding(rules::specs::Effect::give))]
 pub fn give_cell(p: u8, cell: u16, number: u32, board: &mut Board, heap: &mut LentHeap<'_>)
-    requires { heap.old.tally.mallocs < log_mallocs }
+    requires { heap.old.tally.mallocs ≤ log_fields }
     ensures by_rule { state_with board.new heap.new ≡ give p cell number (state_with board.old heap.old) }
     ensures same_lists { SameLists heap.old heap.new }
 {
