@@ -1,4 +1,6 @@
 // A stream that failed, as a line on standard error says it.
+ghost use Rattle.std.specs.Prelude.{◌≡◌, length, take};
+
 use arrayvec::ArrayString;
 use std::fmt;
 use std::fmt::Write;
@@ -15,8 +17,10 @@ pub enum Failure {
 // Room for what the system says of an error.
 const REASON: usize = 256;
 
-// Of an error's text, what the system says; its number stands after that, in parentheses.
-fn without_number(text: &str) -> &str {
+// Of an error's text, the front that the system says; its number stands after that, in parentheses.
+fn without_number(text: &str) -> &str
+    ensures { result.now ≡ take (length result.now) text.now }
+{
     text.rsplit_once(" (os error ")
         .map_or(text, |(reason, _)| reason)
 }
