@@ -22,12 +22,26 @@ use Rattle.fields.specs.Read.{Reading, field_of, frame_in, framing_checks, read_
 use Rattle.fields.proofs.Digits.{first_read, four_read, one_read, two_read}
 use Rattle.fields.proofs.Passing.{all_passed, in_order_append, in_order_map}
 
--- ---- a framed value is as long as its tag's
-pub whole_value : (s v : List ℕ) (tag : ℕ) → frame_in s ≡ Ok (tag, v) → length_of tag ≤ length v
-whole_value s v tag e =
+-- ---- what a frame says of its part: its first byte is the tag, its header is there, and its value, which is as long as the tag's
+pub record Whole (s v : List ℕ) (tag : ℕ) : Type 0 where
+  pub first : tag_in s ≡ tag
+  pub header : 3 ≤ length s
+  pub rest : value_in s ≡ v
+  pub value : length_of tag ≤ length v
+
+pub whole : (s v : List ℕ) (tag : ℕ) → frame_in s ≡ Ok (tag, v) → Whole s v tag
+whole s v tag e =
     let p = all_passed Err (Ok (tag_in s, value_in s)) (framing_checks s) (Ok (tag, v)) (λ r q. cc) e in
     let same : ◌≡◌ {A = ℕ × List ℕ} (tag_in s, value_in s) (tag, v) = cc (p.1) in
-    rw (ap (λ f. f.0) same, ap (λ f. f.1) same) at (leb-true (length_of (tag_in s)) (length (value_in s)) p.0.1.1.1.0)
+    record {
+      first = ap (λ f. f.0) same;
+      header = leb-true 3 (length s) p.0.0;
+      rest = ap (λ f. f.1) same;
+      value = rw (ap (λ f. f.0) same, ap (λ f. f.1) same) at (leb-true (length_of (tag_in s)) (length (value_in s)) p.0.1.1.1.0);
+    }
+
+pub whole_value : (s v : List ℕ) (tag : ℕ) → frame_in s ≡ Ok (tag, v) → length_of tag ≤ length v
+whole_value s v tag e = (whole s v tag e).value
 
 -- ---- what reading comes to, by its frame, and by the checks of the value
 abbrev valued : Result (ℕ × List ℕ) Refusal → Reading
