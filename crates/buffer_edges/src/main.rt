@@ -28,7 +28,7 @@ const CASE_E: [u8; 52] = [
     0, 0, 1, 8, 0, 0, 0, 5, 0, 0, 0, 0, 0, 4, 4, 0, 0, 16, 0, 0,
 ];
 
-// How many places hold another value than before. No list is so long that the sum wraps; `count` would take twice as long.
+// How many places hold another value than before. No list is so long that the sum wraps; `count` is not vectorised.
 fn changed<T: PartialEq + Drop>(list: &[T], before: T) -> usize {
     list.iter().fold(
         0,
